@@ -1,0 +1,55 @@
+use mathlib.Core.Path.{_≡_, refl, sym, ap, _∙_}
+use mathlib.Core.Bool.{false}
+use mathlib.Core.List.{List, map, _++_}
+use Prim.Native.Nat.{ℕ, _+_, _≤_}
+use native.Mathlib.Omega.{arith}
+use lib.IntN.{ℤ}
+use lib.ListN.{length, take}
+use Rattle.std.proofs.shelf.Lists.{map-append, length-map}
+use Rattle.hourbook.specs.declared.settlement.line_row.LineRow.{LineRow}
+use Rattle.hourbook.specs.Shares.{total, shares}
+use Rattle.hourbook.specs.Writes.{written, mark, cells}
+use Rattle.hourbook.specs.Worths.{weights, weight}
+use Rattle.hourbook.specs.LineRows.{line-rows-from}
+use Rattle.hourbook.proofs.Turn.{cells-plain}
+use Rattle.hourbook.proofs.Dealing.{length-shares}
+use Rattle.hourbook.proofs.LineRowed.{length-rows, rows-weigh}
+use Rattle.hourbook.proofs.Parts.{front, both}
+use Rattle.hourbook.proofs.settlement.settle.fill_work.Given as given
+use Rattle.hourbook.proofs.settlement.settle.fill_work.Needs as need
+use Rattle.hourbook.proofs.settlement.settle.fill_work.Needs.{After-write-weights}
+
+-- the rows to share over are the lines by weight
+rows-are : (g : given.Over) (c : need.After-write-weights g) → take (c .line-count-lines .result) (c .write-weights .last .rows) ≡ line-rows-from 1 (weights (g .R·Region .meaning (c .args .region .now)))
+rows-are g c =
+    let m = g .R·Region .meaning (c .args .region .now) in
+    let n = length-map (m .lines) weight in
+    let r = length-rows 1 (weights m) in
+    ap (take (c .line-count-lines .result)) (c .write-weights .ensures .rows) ∙ front _ (line-rows-from 1 (weights m)) (c .line-count-lines .result) (omega arith)
+
+pub share-at-requires : need.share-at-requires
+share-at-requires g c κs =
+    let m = g .R·Region .meaning (c .args .region .now) in
+    let n = length-map (m .lines) weight in
+    let r = length-rows 1 (weights m) in
+    let b = need.at·share-at-requires g c .After-write-weights in
+    let w = rows-weigh 1 (weights m) in
+    rw (rows-are g b) (record { small = c .pre .small; light = rw w (c .pre .light); few = omega arith; some = omega arith; room = omega arith })
+
+pub returns : need.returns
+returns g c =
+    let m = g .R·Region .meaning (c .args .region .now) in
+    let ws = weights m in
+    let n = length-map (m .lines) weight in
+    let b = need.at·returns g c .After-write-weights in
+    let at = c .line-count-lines .result in
+    let front : List LineRow = take at (c .write-weights .last .rows) in
+    let weigh : LineRow → ℕ = λ r. r .weight in
+    let rows : map weigh front ≡ ws = ap (map weigh) (rows-are g b) ∙ rows-weigh 1 ws in
+    let plain : cells (λ _ a. a) false front (shares (c .args .amount) (map weigh front)) ≡ map (mark false) (shares (c .args .amount) ws) =
+    cells-plain false front _ (omega (arith, length-shares (c .args .amount) (map weigh front), length-map front weigh))
+    ∙ ap (λ l. map (mark false) (shares (c .args .amount) l)) rows in
+    c .share-at .ensures
+    ∙ (ap (written (c .write-weights .last .work) at) plain
+    ∙ (ap (λ w. written w at (map (mark false) (shares (c .args .amount) ws))) (c .write-weights .ensures .work)
+    ∙ both (c .args .work .now) ws (shares (c .args .amount) ws) at (omega arith) (omega arith)))

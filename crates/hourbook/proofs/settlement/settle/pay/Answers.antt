@@ -1,0 +1,41 @@
+use mathlib.Core.Path.{_≡_, refl, sym, ap, _∙_}
+use native.Mathlib.Omega.{arith}
+use borrow.Author.Needs.{needs}
+use lib.IntN.{pos, negsuc, natAbs}
+use lib.Signed.{_≤ℤ_}
+use Rattle.hourbook.specs.Writes.{written}
+use Rattle.hourbook.specs.Deals.{equal-deal}
+use mathlib.Core.List.{map}
+use Rattle.std.specs.Of.Vec.{vec-items}
+use Rattle.std.proofs.shelf.Lists.{length-map}
+use Rattle.std.proofs.shelf.Signed.{ints, toZ-ofZ}
+use Rattle.hourbook.proofs.Dealing.{length-lines}
+use Rattle.hourbook.proofs.Parts.{ones-total, loss, needed-loss, needed-income}
+use Rattle.hourbook.proofs.settlement.settle.pay.Needs as need
+
+pub share-at-requires : need.share-at-requires
+share-at-requires c κs =
+    let t = c .args .table .now in
+    let one = ones-total (vec-items (t .owners)) in
+    let neg : c .args .sum ≤ℤ negsuc 0 = omega (arith, ints) in
+    let need = needed-loss (c .args .sum) t neg in
+    rw (c .as-slice .ensures .value) (record { small = omega (arith, ints); light = omega arith; few = omega arith; some = omega arith; room = omega arith })
+
+pub deal-lines-requires : need.deal-lines-requires
+deal-lines-requires c κs =
+    let t = c .args .table .now in
+    let n = length-map (c .args .parts .now) natAbs in
+    let all = length-lines (c .args .origin) (map natAbs (c .args .parts .now)) (vec-items (t .lines)) (omega arith) in
+    let up : pos 0 ≤ℤ c .args .sum = omega (arith, ints) in
+    let need = needed-income (c .args .sum) t up in
+    rw (c .as-slice-else-sum-lt0 .ensures .value) (record { small = c .pre .parts; long = omega arith; room = omega arith })
+
+pub returns-then-sum-lt0 : need.returns-then-sum-lt0
+returns-then-sum-lt0 c =
+    let t = c .args .table .now in
+    let abs : c .unsigned-abs .result ≡ natAbs (c .args .sum) = omega (arith, ints) in
+    let neg : c .args .sum ≤ℤ negsuc 0 = omega (arith, ints) in
+    let rows = c .as-slice .ensures .value in
+    c .share-at .ensures
+    ∙ (ap (λ l. written (c .args .out .now) (c .args .at) (equal-deal (c .args .origin) (c .unsigned-abs .result) l)) rows
+    ∙ ap (written (c .args .out .now) (c .args .at)) (loss (c .args .origin) (c .args .sum) (c .unsigned-abs .result) (map natAbs (c .args .parts .now)) (vec-items (t .lines)) (vec-items (t .owners)) neg abs))

@@ -1,0 +1,17 @@
+-- The number and the place of each fault of a settlement.
+use Prim.Native.Nat.{ℕ}
+use Rattle.hourbook.specs.RegionFaults as region
+use Rattle.hourbook.specs.declared.settlement.fault.SettlementFault.{SettlementFault}
+use Rattle.hourbook.specs.declared.settlement.fault.SettlementFault.the-variants.{Region, Lines, Work, Limit}
+
+abbrev pub number-of : SettlementFault → ℕ
+number-of (Region f) = region.number-of f
+number-of Lines = 10
+number-of Work = 11
+number-of Limit = 12
+
+abbrev pub place-of : SettlementFault → ℕ
+place-of (Region f) = region.place-of f
+place-of Lines = 0
+place-of Work = 0
+place-of Limit = 0

@@ -1,0 +1,112 @@
+//! From the bytes of an hour file to its tables.
+use crate::hourfile::census::Census;
+use crate::hourfile::fault::FileFault;
+use crate::hourfile::fault::FileFromAlloc;
+use crate::hourfile::fault::FileFromRefused;
+use crate::hourfile::gathered::Gathered;
+use crate::hourfile::gathered::NumberedLeg;
+use crate::hourfile::hour_file::HourFile;
+use crate::hourfile::judge::judge;
+use crate::hourfile::loss_table::LossTable;
+use crate::hourfile::network::Network;
+use crate::hourfile::owned_leg::OwnedLeg;
+use crate::hourfile::owned_line::OwnedLine;
+use crate::hourfile::owner::OwnerRow;
+use crate::hourfile::owning::leg_of;
+use crate::hourfile::owning::line_of;
+use crate::hourfile::owning::ownership_of;
+use crate::hourfile::prices::Prices;
+use crate::hourfile::record::OwnerRecord;
+use std::alloc::Global;
+
+// The tables of a lawful file, or the first rule that the file breaks. Judging allocates nothing, so want of memory is
+// answered only for a lawful file.
+pub(crate) fn read(heap: Global, bytes: &[u8]) -> Result<HourFile, FileFault> {
+    let census = judge(bytes)?;
+    let gathered = Gathered::of(heap, bytes, census)?;
+    tables_of(heap, census, gathered)
+}
+
+fn tables_of(heap: Global, census: Census, gathered: Gathered) -> Result<HourFile, FileFault> {
+    let lines = owned_lines(heap, census, &gathered)?;
+    let Some(ownership) = ownership_of(heap, census.region, lines)? else {
+        return Err(FileFault::Keys { leg: 0 });
+    };
+    let Gathered {
+        prices,
+        positions,
+        borders,
+        legs: _,
+        losses,
+        owners: _,
+    } = gathered;
+    let Some(network) = Network::of(census.method, positions, borders) else {
+        return Err(FileFault::Count { place: 0 });
+    };
+    Ok(HourFile {
+        hour: census.hour,
+        network,
+        prices: Prices::of(prices),
+        losses: LossTable::of(losses),
+        ownership,
+    })
+}
+
+fn owned_lines(
+    heap: Global,
+    census: Census,
+    gathered: &Gathered,
+) -> Result<Vec<OwnedLine>, FileFault> {
+    let mut lines = Vec::new(heap);
+    for number in 1..=census.lines() {
+        let legs = owned_legs(
+            heap,
+            number,
+            gathered.legs.as_slice(),
+            gathered.owners.as_slice(),
+        )?;
+        let Some(line) = line_of(number, legs) else {
+            return Err(FileFault::Contribution {
+                line: usize::from(number),
+            });
+        };
+        lines.push(line)?;
+    }
+    Ok(lines)
+}
+
+// The legs of a line, in rising number.
+fn owned_legs(
+    heap: Global,
+    line: u8,
+    legs: &[NumberedLeg],
+    owners: &[OwnerRecord],
+) -> Result<Vec<OwnedLeg>, FileFault> {
+    let mut owned = Vec::new(heap);
+    for leg in legs {
+        if leg.line == line {
+            let rows = owner_rows(heap, leg.number, owners)?;
+            let Some(leg) = leg_of(leg.number, leg.contribution, rows) else {
+                return Err(FileFault::Keys {
+                    leg: usize::from(leg.number),
+                });
+            };
+            owned.push(leg)?;
+        }
+    }
+    Ok(owned)
+}
+
+// The owner rows of a leg, in file order.
+fn owner_rows(heap: Global, leg: u8, owners: &[OwnerRecord]) -> Result<Vec<OwnerRow>, FileFault> {
+    let mut rows = Vec::new(heap);
+    for record in owners {
+        if record.leg == leg {
+            rows.push(OwnerRow {
+                owner: record.owner,
+                key: record.key,
+            })?;
+        }
+    }
+    Ok(rows)
+}
