@@ -41,3 +41,4 @@ pub mod SettledIn
 pub mod Calls
 pub mod Moves
 pub mod Opening
+pub mod Hours

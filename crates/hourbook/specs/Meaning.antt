@@ -28,7 +28,7 @@ pub record ZoneBounded (z : Zone) : Type 0 where
   pub price : natAbs (z .price) ≤ 500000
   pub position : natAbs (z .position) ≤ 1000000
 
--- the spread is the far price less the near price or, reduced, lies between that and 0
+-- the spread is the difference of the two prices, whole or moved toward 0
 pub record LineBounded (l : Line) : Type 0 where
   pub near : natAbs (l .«near_price») ≤ 500000
   pub far : natAbs (l .«far_price») ≤ 500000

@@ -18,6 +18,6 @@ after Payment s = s
 abbrev pub turn : ℕ → Bool → Row → Bool
 turn hour s e = cond (eqb (e .hour) hour) (after (e .kind) s) s
 
--- an hour stands where its latest C or T entry is a C
+-- an hour stands where the last of its entries of kind C or T has kind C
 abbrev pub standing : ℕ → List Row → Bool
 standing hour es = folded (turn hour) false es

@@ -1,6 +1,11 @@
 //! One hour, from the bytes of its file to the statements of its owners.
+ghost use mathlib.Core.List.{_++_};
 ghost use mathlib.Core.Path.{_≡_};
-ghost use Rattle.hourbook.specs.declared.hour.Failure.the-variants.{Refused};
+ghost use Rattle.std.specs.Joined.{joined};
+ghost use Rattle.std.specs.Of.Vec.{vec-items};
+ghost use Rattle.std.specs.Vec.{made};
+ghost use Rattle.hourbook.specs.Hours.{Posted, failure-of, page-of};
+ghost use Rattle.hourbook.specs.declared.hour.Failure.the-variants.{Refused, Memory};
 use crate::book::RestingBook;
 use crate::book::fault::BookFault;
 use crate::book::fault::BookFromFile;
@@ -46,6 +51,8 @@ pub(crate) impl From<BookFault> for Failure as FailureFromBook {
 }
 
 pub(crate) impl From<FileFault> for Failure as FailureFromFile {
+    ghost converts = { λ e r. r ≡ failure-of e };
+
     fn from(e: FileFault) -> Failure {
         match e {
             FileFault::Memory => Failure::Memory,
@@ -55,6 +62,8 @@ pub(crate) impl From<FileFault> for Failure as FailureFromFile {
 }
 
 pub(crate) impl From<AllocError> for Failure as FailureFromAlloc {
+    ghost converts = { λ _ r. r ≡ Memory };
+
     fn from(_e: AllocError) -> Failure {
         Failure::Memory
     }
@@ -74,8 +83,9 @@ pub(crate) fn statements(heap: Global, bytes: &[u8]) -> Result<Vec<u8>, Failure>
     };
     let region = Losses::over(below, losses);
     let mut memory = entry_memory(heap)?;
-    let book = posted(heap, &region, &ownership, hour, &mut memory)?;
-    written(heap, &book, memory.as_slice(), ownership.owners.as_slice())
+    let mut work = vec![in heap; 0i64; WORK]?;
+    let book = posted(&region, &ownership, hour, &mut memory, &mut work)?;
+    pages(heap, &book, memory.as_slice(), ownership.owners.as_slice())
 }
 
 // Places for the entries of one hour file.
@@ -92,43 +102,49 @@ fn entry_memory(heap: Global) -> Result<Vec<Row>, AllocError> {
     vec![in heap; blank; ENTRIES]
 }
 
-// An empty book with the hour opened, the region settled, and both posted.
+// An empty book with the hour opened, the region settled, and both posted: its entries are the region's credits.
 fn posted<R: Region>(
-    heap: Global,
-    region: &R,
-    ownership: &Ownership,
-    hour: u32,
-    memory: &mut [Row],
-) -> Result<RestingBook, Failure> {
-    let mut work = vec![in heap; 0i64; WORK]?;
-    let settled = settled(region, ownership, hour, memory, &mut work)?;
-    Ok(settled)
-}
-
-fn settled<R: Region>(
     region: &R,
     ownership: &Ownership,
     hour: u32,
     memory: &mut [Row],
     work: &mut [i64],
-) -> Result<RestingBook, BookFault> {
+) -> Result<RestingBook, BookFault>
+    ensures { λ r. ⌜ made r (λ book. Posted (meaning (now (region .entry))) (now (ownership .entry)) hour (book .used) (now (memory .entry)) (now (memory .exit))) ⌝ }
+{
     let mut book = RestingBook::empty().open(memory, hour)?;
     let _ = book.settle(memory, region, ownership, work)?;
     Ok(book.post(memory)?)
 }
 
+// One owner's statement more.
+fn append_page(
+    text: &mut Vec<u8>,
+    book: &RestingBook,
+    memory: &[Row],
+    owner: Owner,
+    page: &mut [u8],
+) -> Result<(), Failure>
+    ensures { λ r. ⌜ made r (λ _. vec-items (now (text .exit)) ≡ vec-items (now (text .entry)) ++ page-of (now (book .entry) .used) (now (memory .entry)) owner) ⌝ }
+{
+    let n = book.statement(memory, owner.number, page)?;
+    text.extend_from_slice(&page[0..n])?;
+    Ok(())
+}
+
 // The owners' statements, one after another.
-fn written(
+fn pages(
     heap: Global,
     book: &RestingBook,
     memory: &[Row],
     owners: &[Owner],
-) -> Result<Vec<u8>, Failure> {
+) -> Result<Vec<u8>, Failure>
+    ensures { λ r. ⌜ made r (λ t. vec-items t ≡ joined (page-of (now (book .entry) .used) (now (memory .entry))) (now (owners .entry))) ⌝ }
+{
     let mut text = Vec::new(heap);
     let mut page = vec![in heap; 0u8; PAGE]?;
     for owner in owners {
-        let n = book.statement(memory, owner.number, &mut page)?;
-        text.extend_from_slice(&page[0..n])?;
+        append_page(&mut text, book, memory, *owner, &mut page)?;
     }
     Ok(text)
 }

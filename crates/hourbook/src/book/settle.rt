@@ -4,11 +4,10 @@ ghost use mathlib.Core.Bool.{cond, _||_};
 ghost use Prim.Native.Nat.{ℕ, _+_, _≤_, min};
 ghost use lib.Dec.{eqb};
 ghost use lib.ListN.{length};
-ghost use Rattle.std.specs.Of.Vec.{vec-len};
 ghost use Rattle.std.specs.Results.{isOk};
 ghost use Rattle.std.specs.Vec.{made, refused};
 ghost use Rattle.hourbook.specs.Calls.{settle-judged};
-ghost use Rattle.hourbook.specs.Opening.{Admits, Advanced, origin-of};
+ghost use Rattle.hourbook.specs.Opening.{Admits, Advanced, lines-in, origin-of};
 ghost use Rattle.hourbook.specs.Settled.{judged, credits-of, needed, work-of};
 ghost use Rattle.hourbook.specs.Writes.{written};
 use crate::book::OpenBook;
@@ -35,7 +34,7 @@ impl OpenBook {
         room: usize,
         places: usize,
     ) -> Result<i64, BookFault>
-        ensures answer { λ r. ⌜ r ≡ settle-judged (judged (meaning (now (region .entry))) (vec-len (now (table .entry) .lines)) room) (now (table .entry)) (now (self .entry) .used) places (now (self .entry) .settled) ⌝ }
+        ensures answer { λ r. ⌜ r ≡ settle-judged (judged (meaning (now (region .entry))) (lines-in (now (table .entry))) room) (now (table .entry)) (now (self .entry) .used) places (now (self .entry) .settled) ⌝ }
         ensures facts { λ r. ⌜ made r (Admits (meaning (now (region .entry))) (now (table .entry)) (now (self .entry) .used) room places) ⌝ }
     {
         let income = judge(region, table, room)?;
@@ -61,7 +60,7 @@ impl OpenBook {
         table: &Ownership,
         work: &mut [i64],
     ) -> Result<i64, BookFault>
-        ensures answer { λ r. ⌜ r ≡ settle-judged (judged (meaning (now (region .entry))) (vec-len (now (table .entry) .lines)) (length (now (work .entry)))) (now (table .entry)) (now (self .entry) .used) (length (now (memory .entry))) (now (self .entry) .settled) ⌝ }
+        ensures answer { λ r. ⌜ r ≡ settle-judged (judged (meaning (now (region .entry))) (lines-in (now (table .entry))) (length (now (work .entry)))) (now (table .entry)) (now (self .entry) .used) (length (now (memory .entry))) (now (self .entry) .settled) ⌝ }
         ensures work { λ r. ⌜ now (work .exit) ≡ cond (isOk r) (written (now (work .entry)) 0 (work-of (meaning (now (region .entry))))) (now (work .entry)) ⌝ }
         ensures entries { λ r. ⌜ now (memory .exit) ≡ cond (isOk r) (written (now (memory .entry)) (now (self .entry) .used) (credits-of (origin-of (now (self .entry)) (now (table .entry))) (meaning (now (region .entry))) (now (table .entry)))) (now (memory .entry)) ⌝ }
         ensures book { λ r. ⌜ made r (λ income. Advanced (now (self .entry)) (now (self .exit)) (now (table .entry)) income) ⌝ }

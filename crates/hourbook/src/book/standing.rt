@@ -6,7 +6,8 @@ ghost use Rattle.hourbook.specs.Standing.{standing};
 use crate::entry::kind::EntryKind;
 use crate::entry::row::Row;
 
-// An hour stands where its latest C or T entry is a C. Looks from the last entry that counts backward.
+// An hour stands where the last of its entries of kind C or T has kind C. Looks from the last entry that counts
+// backward.
 pub(crate) fn stands(entries: &[Row], used: usize, hour: u32) -> bool
     requires { ⌜ used ≤ length (now entries) ⌝ }
     ensures { λ r. ⌜ r ≡ standing hour (take used (now (entries .entry))) ⌝ }

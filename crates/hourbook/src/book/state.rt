@@ -23,6 +23,7 @@ impl RestingBook {
         out: &mut [u8],
     ) -> Result<usize, BookFault>
         ensures answer { λ r. ⌜ r ≡ statement-judged (now (self .entry) .used) (now (memory .entry)) owner (length (now (out .entry))) ⌝ }
+        ensures count { λ r. ⌜ made r (λ n. n ≡ length (text owner (now (self .entry) .used) (now (memory .entry)))) ⌝ }
         ensures within { λ r. ⌜ made r (λ n. n ≤ length (now (out .exit))) ⌝ }
         ensures memory { λ r. ⌜ now (out .exit) ≡ cond (isOk r) (over (text owner (now (self .entry) .used) (now (memory .entry))) (now (out .entry))) (now (out .entry)) ⌝ }
     {

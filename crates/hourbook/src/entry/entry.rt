@@ -6,7 +6,7 @@ ghost use Rattle.hourbook.specs.Amounts.{read-amount};
 use crate::entry::kind::EntryKind;
 use crate::entry::row::Row;
 
-// Its amount always lies within two billion cents either way, so sums over a million entries need no premise.
+// Its amount lies within two billion cents either way, so that a sum over all entries of a book cannot overflow.
 #[derive(Clone, Copy)]
 pub(crate) struct Entry {
     pub(crate) kind: EntryKind,
@@ -22,7 +22,7 @@ pub(crate) struct Entry {
 const LARGEST: i32 = 2_000_000_000;
 
 impl Entry {
-    // A place that holds another amount reads as 0; its kind and hour still count.
+    // An amount out of range is read as 0, and the other fields as they are.
     pub(crate) fn of(row: &Row) -> Entry
         ensures kind { λ r. ⌜ r .kind ≡ now (row .entry) .kind ⌝ }
         ensures place { λ r. ⌜ (r .hour ≡ now (row .entry) .hour) × (r .region ≡ now (row .entry) .region) × (r .line ≡ now (row .entry) .line) × (r .leg ≡ now (row .entry) .leg) × (r .owner ≡ now (row .entry) .owner) ⌝ }

@@ -3,6 +3,7 @@ ghost use Prim.Native.Nat.{_≤_};
 ghost use mathlib.Core.Path.{_≡_};
 ghost use lib.ListN.{length};
 ghost use Rattle.std.specs.Of.Vec.{vec-items, vec-len};
+ghost use Rattle.std.specs.Options.{Cases as BySome};
 use crate::hourfile::border::Border;
 use crate::hourfile::method::Method;
 use crate::hourfile::position::NetPosition;
@@ -23,7 +24,9 @@ impl Network {
         method: Method,
         positions: Vec<NetPosition>,
         borders: Vec<Border>,
-    ) -> Option<Network> {
+    ) -> Option<Network>
+        ensures { λ r. ⌜ BySome r (1 ≤ vec-len positions → vec-len positions ≤ 16 → vec-len borders ≤ 48 → ⊥) (λ n. (n .method ≡ method) × (vec-items (n .positions) ≡ vec-items positions) × (vec-items (n .borders) ≡ vec-items borders)) ⌝ }
+    {
         if positions.is_empty() || positions.len() > 16 || borders.len() > 48 {
             return None;
         }

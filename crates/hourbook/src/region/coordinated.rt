@@ -36,7 +36,7 @@ pub(crate) struct Coordinated<'a> {
 impl<'a> Coordinated<'a> {
     // The region of tables of this method with as many prices as net positions, and none of others.
     pub(crate) fn of(network: &'a Network, prices: &'a Prices) -> Option<Coordinated<'a>>
-        ensures { λ r. ⌜ BySome r (Unit {0}) (λ s. (now (s .network) ≡ now (network .entry)) × (now (s .prices) ≡ now (prices .entry)) × Judged (tenths-of (vec-items (now (network .entry) .positions))) (vec-items (now (network .entry) .borders)) (s .flaw)) ⌝ }
+        ensures { λ r. ⌜ BySome r (now (network .entry) .method ≡ Method.Coordinated → vec-len (now (prices .entry) .list) ≡ vec-len (now (network .entry) .positions) → ⊥) (λ s. (now (s .network) ≡ now (network .entry)) × (now (s .prices) ≡ now (prices .entry)) × Judged (tenths-of (vec-items (now (network .entry) .positions))) (vec-items (now (network .entry) .borders)) (s .flaw)) ⌝ }
     {
         if network.method() != Method::Coordinated
             || prices.list().len() != network.positions().len()

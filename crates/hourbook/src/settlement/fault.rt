@@ -9,7 +9,7 @@ use crate::region::fault::RegionFault;
 #[derive(Clone, Copy)]
 pub(crate) enum SettlementFault {
     Region(RegionFault),
-    // the ownership table has another number of lines than the region
+    // table and region differ in their number of lines
     Lines,
     // work memory is too short
     Work,
