@@ -15,7 +15,7 @@ use Rattle.hourbook.specs.declared.hourfile.«record».Record.the-variants.{He
 abbrev pub method-of : ℕ → Option Method
 method-of n = cond (eqb n 1) (Some FlowBased) (cond (eqb n 2) (Some Coordinated) None)
 
--- beside a flow-based calculation no capacity is allocated
+-- the flow-based method allocates no capacity
 abbrev pub CapacityInRange : Method → ℤ → Type 0
 CapacityInRange FlowBased capacity = capacity ≡ pos 0
 CapacityInRange Coordinated capacity = natAbs capacity ≤ 200000

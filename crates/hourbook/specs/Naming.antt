@@ -36,7 +36,7 @@ leg-noted n l = record { census = n .census; legs = n .legs + 1; lines = set (n 
 abbrev pub factor-seen : Names → FactorRecord → Bool
 factor-seen n f = getD (getD (n .factors) (f .leg - 1) []) (f .zone - 1) false
 
--- a leg on a border and a zone, beside a flow-based calculation, and once only
+-- in the flow-based method, a leg on a border and a zone, and once only
 abbrev pub FactorNamed : Names → FactorRecord → Type 0
 FactorNamed n f =
     (n .census .method ≡ FlowBased)

@@ -7,7 +7,7 @@ use Rattle.hourbook.specs.declared.hourfile.method.Method.the-variants.{FlowBa
 abbrev pub Numbered : ℕ → ℕ → Type 0
 Numbered count n = (1 ≤ n) × (n ≤ count)
 
--- the borders, and beside a flow-based calculation an external line for each zone
+-- the borders, and in the flow-based method an external line for each zone
 abbrev pub lines-of : Method → ℕ → ℕ → ℕ
 lines-of FlowBased zones borders = borders + zones
 lines-of Coordinated zones borders = borders

@@ -148,3 +148,40 @@ fn pages(
     }
     Ok(text)
 }
+
+#[cfg(test)]
+mod tests {
+    use super::*;
+    use std::test::*;
+
+    // The number and place of a refusal, (0, 0) for statements, and (0, 1) for an hour that is not settled.
+    fn outcome(heap: Global, bytes: &[u8]) -> (u8, usize) {
+        match statements(heap, bytes) {
+            Ok(_) => (0, 0),
+            Err(Failure::Refused(fault)) => (fault.number(), fault.place()),
+            Err(_) => (0, 1),
+        }
+    }
+
+    #[test]
+    fn a_negative_income_is_borne_in_equal_shares(rt: LibcRuntime) -> Result<(), Fail> {
+        let file =
+            b"H\x00\x00\x00\x07\x01\x02Z\x00\x00\x00\x0a\x00\x00\x00\x64Z\x00\x00\x00\x00\xff\xff\xff\x9cB\x01\x02\x00\x00\x00\x64L\x01\x00\x01O\x01\x03\x13\x88O\x01\x01\x0a\xe1O\x01\x02\x08\xa7E";
+        let Ok(text) = statements(rt.alloc(), file) else {
+            return Err(Fail::new("refused"));
+        };
+        let lines =
+            b"O 1\nC 7 1 0 0 -33\nB -33\nO 2\nC 7 1 0 0 -33\nB -33\nO 3\nC 7 1 0 0 -34\nB -34\n";
+        check(text.as_slice() == lines.as_slice())
+    }
+
+    #[test]
+    fn refusals_of_region_and_settlement(rt: LibcRuntime) -> Result<(), Fail> {
+        let unbalanced =
+            b"H\x00\x00\x00\x07\x01\x02Z\x00\x00\x00\x0a\x00\x00\x00\x63Z\x00\x00\x00\x00\xff\xff\xff\x9cB\x01\x02\x00\x00\x00\x64L\x01\x00\x01O\x01\x01\x27\x10E";
+        check_eq(outcome(rt.alloc(), unbalanced), (8, 0))?;
+        let flow_based =
+            b"H\x00\x00\x00\x07\x01\x01Z\x00\x00\x03\xe8\x00\x00\x00\x00L\x01\x00\x01O\x01\x01\x27\x10E";
+        check_eq(outcome(rt.alloc(), flow_based), (0, 1))
+    }
+}

@@ -39,7 +39,7 @@ impl Census {
         }
     }
 
-    // The borders, and beside a flow-based calculation an external line for each zone.
+    // The borders, and in the flow-based method an external line for each zone.
     pub(crate) fn lines(&self) -> u8
         ensures value { λ r. ⌜ r ≡ lines-of (now (self .entry) .method) (now (self .entry) .zones) (now (self .entry) .borders) ⌝ }
         ensures bound { λ r. ⌜ r ≤ 64 ⌝ }

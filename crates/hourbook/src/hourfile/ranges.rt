@@ -47,7 +47,7 @@ impl Record {
 }
 
 impl BorderRecord {
-    // Beside a flow-based calculation no capacity is allocated.
+    // The flow-based method allocates no capacity.
     fn in_range(&self, method: Method) -> bool
         ensures { λ r. ⌜ Decides r (CapacityInRange method (now (self .entry) .capacity)) ⌝ }
     {
