@@ -1,4 +1,4 @@
--- The number and the place of each fault of the book.
+-- The number, the layer and the place of each fault of the book.
 use Prim.Native.Nat.{ℕ}
 use Rattle.hourbook.specs.SettlementFaults as settlement
 use Rattle.hourbook.specs.declared.book.fault.BookFault.{BookFault}
@@ -13,6 +13,16 @@ number-of Nothing = 16
 number-of Owner = 18
 number-of Full = 20
 number-of Statement = 21
+
+abbrev pub layer-of : BookFault → ℕ
+layer-of (Settlement f) = settlement.layer-of f
+layer-of Entries = 4
+layer-of Settled = 4
+layer-of Hour = 4
+layer-of Nothing = 4
+layer-of Owner = 4
+layer-of Full = 4
+layer-of Statement = 4
 
 abbrev pub place-of : BookFault → ℕ
 place-of (Settlement f) = settlement.place-of f

@@ -1,4 +1,4 @@
--- The number and the place of each fault of an hour file.
+-- The number, the layer and the place of each fault of an hour file.
 use Prim.Native.Nat.{ℕ}
 use Rattle.hourbook.specs.declared.hourfile.fault.FileFault.{FileFault}
 use Rattle.hourbook.specs.declared.hourfile.fault.FileFault.the-variants.{Memory, Unread, Order, Count, Range, Name, Contribution, Keys}
@@ -13,6 +13,10 @@ number-of (Range p) = 4
 number-of (Name p) = 5
 number-of (Contribution p) = 6
 number-of (Keys p) = 7
+
+-- the file is the first layer
+abbrev pub layer-of : FileFault → ℕ
+layer-of f = 1
 
 -- the record at fault counted from 1, the line or the leg; 0 where there is none
 abbrev pub place-of : FileFault → ℕ

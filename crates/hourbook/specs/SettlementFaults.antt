@@ -1,4 +1,4 @@
--- The number and the place of each fault of a settlement.
+-- The number, the layer and the place of each fault of a settlement.
 use Prim.Native.Nat.{ℕ}
 use Rattle.hourbook.specs.RegionFaults as region
 use Rattle.hourbook.specs.declared.settlement.fault.SettlementFault.{SettlementFault}
@@ -9,6 +9,12 @@ number-of (Region f) = region.number-of f
 number-of Lines = 10
 number-of Work = 11
 number-of Limit = 12
+
+abbrev pub layer-of : SettlementFault → ℕ
+layer-of (Region f) = region.layer-of f
+layer-of Lines = 3
+layer-of Work = 3
+layer-of Limit = 3
 
 abbrev pub place-of : SettlementFault → ℕ
 place-of (Region f) = region.place-of f

@@ -1,6 +1,6 @@
 //! Why a call of the book is refused.
 ghost use mathlib.Core.Path.{_≡_};
-ghost use Rattle.hourbook.specs.BookFaults.{number-of, place-of};
+ghost use Rattle.hourbook.specs.BookFaults.{layer-of, number-of, place-of};
 ghost use Rattle.hourbook.specs.declared.book.fault.BookFault.the-variants.{Settlement};
 ghost use Rattle.hourbook.specs.declared.region.fault.RegionFault.the-variants.{File};
 ghost use Rattle.hourbook.specs.declared.settlement.fault.SettlementFault.the-variants.{Region};
@@ -41,6 +41,15 @@ impl BookFault {
             BookFault::Owner => 18,
             BookFault::Full => 20,
             BookFault::Statement => 21,
+        }
+    }
+
+    pub(crate) fn layer(&self) -> u8
+        ensures { λ r. ⌜ r ≡ layer-of (now (self .entry)) ⌝ }
+    {
+        match self {
+            BookFault::Settlement(fault) => fault.layer(),
+            _ => 4,
         }
     }
 

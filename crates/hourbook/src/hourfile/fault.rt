@@ -1,6 +1,6 @@
 //! What is wrong with an hour file.
 ghost use mathlib.Core.Path.{_≡_};
-ghost use Rattle.hourbook.specs.FileFaults.{number-of, place-of};
+ghost use Rattle.hourbook.specs.FileFaults.{layer-of, number-of, place-of};
 ghost use Rattle.hourbook.specs.declared.hourfile.fault.FileFault.the-variants.{Memory};
 use std::alloc::AllocError;
 use std::alloc::Refused;
@@ -33,6 +33,12 @@ impl FileFault {
             FileFault::Contribution { .. } => 6,
             FileFault::Keys { .. } => 7,
         }
+    }
+
+    pub(crate) fn layer(&self) -> u8
+        ensures { λ r. ⌜ r ≡ layer-of (now (self .entry)) ⌝ }
+    {
+        1
     }
 
     pub(crate) fn place(&self) -> usize

@@ -1,6 +1,6 @@
 //! What is wrong with a region.
 ghost use mathlib.Core.Path.{_≡_};
-ghost use Rattle.hourbook.specs.RegionFaults.{number-of, place-of};
+ghost use Rattle.hourbook.specs.RegionFaults.{layer-of, number-of, place-of};
 ghost use Rattle.hourbook.specs.declared.region.fault.RegionFault.the-variants.{File, Unsound};
 use crate::hourfile::fault::FileFault;
 
@@ -27,6 +27,15 @@ impl RegionFault {
             RegionFault::File(fault) => fault.number(),
             RegionFault::Unsound(Flaw::Imbalance) => 8,
             RegionFault::Unsound(Flaw::Excess) => 9,
+        }
+    }
+
+    pub(crate) fn layer(&self) -> u8
+        ensures { λ r. ⌜ r ≡ layer-of (now (self .entry)) ⌝ }
+    {
+        match self {
+            RegionFault::File(fault) => fault.layer(),
+            RegionFault::Unsound(_) => 2,
         }
     }
 

@@ -1,6 +1,6 @@
 //! Why a settlement is refused.
 ghost use mathlib.Core.Path.{_≡_};
-ghost use Rattle.hourbook.specs.SettlementFaults.{number-of, place-of};
+ghost use Rattle.hourbook.specs.SettlementFaults.{layer-of, number-of, place-of};
 ghost use Rattle.hourbook.specs.declared.region.fault.RegionFault.the-variants.{Unsound};
 ghost use Rattle.hourbook.specs.declared.settlement.fault.SettlementFault.the-variants.{Region};
 use crate::region::fault::Flaw;
@@ -26,6 +26,15 @@ impl SettlementFault {
             SettlementFault::Lines => 10,
             SettlementFault::Work => 11,
             SettlementFault::Limit => 12,
+        }
+    }
+
+    pub(crate) fn layer(&self) -> u8
+        ensures { λ r. ⌜ r ≡ layer-of (now (self .entry)) ⌝ }
+    {
+        match self {
+            SettlementFault::Region(fault) => fault.layer(),
+            SettlementFault::Lines | SettlementFault::Work | SettlementFault::Limit => 3,
         }
     }
 
