@@ -18,3 +18,4 @@ pub mod Texts
 pub mod Owns
 pub mod Stands
 pub mod BitLaws
+pub mod Kept

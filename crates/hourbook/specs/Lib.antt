@@ -42,3 +42,4 @@ pub mod Calls
 pub mod Moves
 pub mod Opening
 pub mod Hours
+pub mod OwnershipRead

@@ -1,4 +1,9 @@
 //! From the bytes of an hour file to its tables.
+ghost use mathlib.Core.List.{map};
+ghost use mathlib.Core.Path.{_≡_};
+ghost use Rattle.std.specs.Of.Vec.{vec-items};
+ghost use Rattle.std.specs.Vec.{made};
+ghost use Rattle.hourbook.specs.OwnershipRead.{leg-told, legs-of-line, rows-of-leg, told};
 use crate::hourfile::census::Census;
 use crate::hourfile::fault::FileFault;
 use crate::hourfile::fault::FileFromAlloc;
@@ -75,30 +80,41 @@ fn owned_lines(
     Ok(lines)
 }
 
+// A leg with its owners.
+fn owned_leg(heap: Global, leg: NumberedLeg, owners: &[OwnerRecord]) -> Result<OwnedLeg, FileFault>
+    ensures { λ r. ⌜ made r (λ owned. told owned ≡ leg-told (now (owners .entry)) leg) ⌝ }
+{
+    let rows = owner_rows(heap, leg.number, owners)?;
+    match leg_of(leg.number, leg.contribution, rows) {
+        Some(owned) => Ok(owned),
+        None => Err(FileFault::Keys {
+            leg: usize::from(leg.number),
+        }),
+    }
+}
+
 // The legs of a line, in rising number.
 fn owned_legs(
     heap: Global,
     line: u8,
     legs: &[NumberedLeg],
     owners: &[OwnerRecord],
-) -> Result<Vec<OwnedLeg>, FileFault> {
+) -> Result<Vec<OwnedLeg>, FileFault>
+    ensures { λ r. ⌜ made r (λ owned. map told (vec-items owned) ≡ legs-of-line line (now (legs .entry)) (now (owners .entry))) ⌝ }
+{
     let mut owned = Vec::new(heap);
     for leg in legs {
         if leg.line == line {
-            let rows = owner_rows(heap, leg.number, owners)?;
-            let Some(leg) = leg_of(leg.number, leg.contribution, rows) else {
-                return Err(FileFault::Keys {
-                    leg: usize::from(leg.number),
-                });
-            };
-            owned.push(leg)?;
+            owned.push(owned_leg(heap, *leg, owners)?)?;
         }
     }
     Ok(owned)
 }
 
 // The owner rows of a leg, in file order.
-fn owner_rows(heap: Global, leg: u8, owners: &[OwnerRecord]) -> Result<Vec<OwnerRow>, FileFault> {
+fn owner_rows(heap: Global, leg: u8, owners: &[OwnerRecord]) -> Result<Vec<OwnerRow>, FileFault>
+    ensures { λ r. ⌜ made r (λ rows. vec-items rows ≡ rows-of-leg leg (now (owners .entry))) ⌝ }
+{
     let mut rows = Vec::new(heap);
     for record in owners {
         if record.leg == leg {
