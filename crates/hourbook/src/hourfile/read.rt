@@ -1,9 +1,10 @@
 //! From the bytes of an hour file to its tables.
 ghost use mathlib.Core.List.{map};
 ghost use mathlib.Core.Path.{_≡_};
+ghost use Prim.Native.Nat.{_≤_};
 ghost use Rattle.std.specs.Of.Vec.{vec-items};
 ghost use Rattle.std.specs.Vec.{made};
-ghost use Rattle.hourbook.specs.OwnershipRead.{leg-told, legs-of-line, rows-of-leg, told};
+ghost use Rattle.hourbook.specs.OwnershipRead.{leg-told, legs-of-line, line-said, line-told, lines-told, rows-of-leg, told};
 use crate::hourfile::census::Census;
 use crate::hourfile::fault::FileFault;
 use crate::hourfile::fault::FileFromAlloc;
@@ -33,7 +34,8 @@ pub(crate) fn read(heap: Global, bytes: &[u8]) -> Result<HourFile, FileFault> {
 }
 
 fn tables_of(heap: Global, census: Census, gathered: Gathered) -> Result<HourFile, FileFault> {
-    let lines = owned_lines(heap, census, &gathered)?;
+    let legs = gathered.legs.as_slice();
+    let lines = owned_lines(heap, census.lines(), legs, gathered.owners.as_slice())?;
     let Some(ownership) = ownership_of(heap, census.region, lines)? else {
         return Err(FileFault::Keys { leg: 0 });
     };
@@ -57,25 +59,37 @@ fn tables_of(heap: Global, census: Census, gathered: Gathered) -> Result<HourFil
     })
 }
 
+// A line with its legs.
+fn owned_line(
+    heap: Global,
+    number: u8,
+    legs: &[NumberedLeg],
+    owners: &[OwnerRecord],
+) -> Result<OwnedLine, FileFault>
+    ensures { λ r. ⌜ made r (λ line. line-said line ≡ line-told (now (legs .entry)) (now (owners .entry)) number) ⌝ }
+{
+    let owned = owned_legs(heap, number, legs, owners)?;
+    match line_of(number, owned) {
+        Some(line) => Ok(line),
+        None => Err(FileFault::Contribution {
+            line: usize::from(number),
+        }),
+    }
+}
+
+// So many lines, in rising number.
 fn owned_lines(
     heap: Global,
-    census: Census,
-    gathered: &Gathered,
-) -> Result<Vec<OwnedLine>, FileFault> {
+    count: u8,
+    legs: &[NumberedLeg],
+    owners: &[OwnerRecord],
+) -> Result<Vec<OwnedLine>, FileFault>
+    requires { ⌜ count ≤ 64 ⌝ }
+    ensures { λ r. ⌜ made r (λ lines. map line-said (vec-items lines) ≡ lines-told count (now (legs .entry)) (now (owners .entry))) ⌝ }
+{
     let mut lines = Vec::new(heap);
-    for number in 1..=census.lines() {
-        let legs = owned_legs(
-            heap,
-            number,
-            gathered.legs.as_slice(),
-            gathered.owners.as_slice(),
-        )?;
-        let Some(line) = line_of(number, legs) else {
-            return Err(FileFault::Contribution {
-                line: usize::from(number),
-            });
-        };
-        lines.push(line)?;
+    for before in 0..count {
+        lines.push(owned_line(heap, before + 1, legs, owners)?)?;
     }
     Ok(lines)
 }
