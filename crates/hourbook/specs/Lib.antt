@@ -43,3 +43,4 @@ pub mod Moves
 pub mod Opening
 pub mod Hours
 pub mod OwnershipRead
+pub mod TablesRead

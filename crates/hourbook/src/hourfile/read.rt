@@ -4,6 +4,7 @@ ghost use mathlib.Core.Path.{_≡_};
 ghost use Prim.Native.Nat.{_≤_};
 ghost use Rattle.std.specs.Of.Vec.{vec-items};
 ghost use Rattle.std.specs.Vec.{made};
+ghost use Rattle.hourbook.specs.TablesRead.{Tabled};
 ghost use Rattle.hourbook.specs.OwnershipRead.{leg-told, legs-of-line, line-said, line-told, lines-told, rows-of-leg, told};
 use crate::hourfile::census::Census;
 use crate::hourfile::fault::FileFault;
@@ -33,7 +34,10 @@ pub(crate) fn read(heap: Global, bytes: &[u8]) -> Result<HourFile, FileFault> {
     tables_of(heap, census, gathered)
 }
 
-fn tables_of(heap: Global, census: Census, gathered: Gathered) -> Result<HourFile, FileFault> {
+// The tables of a file's sorted records.
+fn tables_of(heap: Global, census: Census, gathered: Gathered) -> Result<HourFile, FileFault>
+    ensures { λ r. ⌜ made r (Tabled census gathered) ⌝ }
+{
     let legs = gathered.legs.as_slice();
     let lines = owned_lines(heap, census.lines(), legs, gathered.owners.as_slice())?;
     let Some(ownership) = ownership_of(heap, census.region, lines)? else {
