@@ -17,3 +17,7 @@ module _ {X Y : Type 0} (f : X → Y) (p : X → Bool) (xs : List X) (i : ℕ) (
 
   pub kept-no : p (getD xs i d) ≡ false → map f (kept-by p (take (i + 1) xs)) ≡ map f (kept-by p (take i xs))
   kept-no e = step ∙ (ap (λ b. map f (kept-by p (take i xs)) ++ map f (cond b (getD xs i d ∷ []) [])) e ∙ append-nil _)
+
+-- one element more, seen through f
+pub image-more : {X Y : Type 0} (f : X → Y) (xs ys : List X) (x : X) (y : Y) → ys ≡ xs ++ (x ∷ []) → f x ≡ y → map f ys ≡ map f xs ++ (y ∷ [])
+image-more f xs ys x y e h = ap (map f) e ∙ (map-append f xs (x ∷ []) ∙ ap (λ z. map f xs ++ (z ∷ [])) h)

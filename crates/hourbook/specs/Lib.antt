@@ -44,3 +44,4 @@ pub mod Opening
 pub mod Hours
 pub mod OwnershipRead
 pub mod TablesRead
+pub mod SortedRecords

@@ -1,5 +1,9 @@
 //! The records of an hour file, sorted by kind.
 ghost use mathlib.Core.Path.{_≡_};
+ghost use Rattle.std.specs.Vec.{made};
+ghost use Rattle.hourbook.specs.Naming.{census-lines};
+ghost use Rattle.hourbook.specs.SortedRecords.{plus, said, unsorted};
+ghost use Rattle.hourbook.specs.declared.hourfile.«record».Record.the-variants.{Zone, Border as RecordBorder, Leg, Loss};
 use crate::hourfile::border::Border;
 use crate::hourfile::census::Census;
 use crate::hourfile::fault::FileFault;
@@ -37,7 +41,9 @@ pub(crate) struct Gathered {
 }
 
 impl Gathered {
-    fn new(heap: Global, census: Census) -> Result<Gathered, FileFault> {
+    fn new(heap: Global, census: Census) -> Result<Gathered, FileFault>
+        ensures { λ r. ⌜ made r (λ g. said g ≡ unsorted (census-lines census)) ⌝ }
+    {
         Ok(Gathered {
             prices: Vec::new(heap),
             positions: Vec::new(heap),
@@ -57,7 +63,9 @@ impl Gathered {
         Ok(gathered)
     }
 
-    fn take(&mut self, record: Record, place: usize) -> Result<(), FileFault> {
+    fn take(&mut self, record: Record, place: usize) -> Result<(), FileFault>
+        ensures { λ r. ⌜ made r (λ _. said (now (self .exit)) ≡ plus (said (now (self .entry))) «record») ⌝ }
+    {
         match record {
             Record::Zone(zone) => self.take_zone(zone, place),
             Record::Border(border) => self.take_border(border, place),
@@ -71,7 +79,9 @@ impl Gathered {
         }
     }
 
-    fn take_zone(&mut self, zone: ZoneRecord, place: usize) -> Result<(), FileFault> {
+    fn take_zone(&mut self, zone: ZoneRecord, place: usize) -> Result<(), FileFault>
+        ensures { λ r. ⌜ made r (λ _. said (now (self .exit)) ≡ plus (said (now (self .entry))) (Zone zone)) ⌝ }
+    {
         let Some(price) = Price::of(zone.price) else {
             return Err(FileFault::Range { place });
         };
@@ -83,7 +93,9 @@ impl Gathered {
         Ok(())
     }
 
-    fn take_border(&mut self, record: BorderRecord, place: usize) -> Result<(), FileFault> {
+    fn take_border(&mut self, record: BorderRecord, place: usize) -> Result<(), FileFault>
+        ensures { λ r. ⌜ made r (λ _. said (now (self .exit)) ≡ plus (said (now (self .entry))) (RecordBorder «record»)) ⌝ }
+    {
         let Some(border) = Border::of(record.near, record.far, record.capacity) else {
             return Err(FileFault::Range { place });
         };
@@ -91,7 +103,9 @@ impl Gathered {
         Ok(())
     }
 
-    fn take_leg(&mut self, leg: LegRecord, place: usize) -> Result<(), FileFault> {
+    fn take_leg(&mut self, leg: LegRecord, place: usize) -> Result<(), FileFault>
+        ensures { λ r. ⌜ made r (λ _. said (now (self .exit)) ≡ plus (said (now (self .entry))) (Leg leg)) ⌝ }
+    {
         let Ok(before) = u8::try_from(self.legs.len()) else {
             return Err(FileFault::Count { place });
         };
@@ -108,7 +122,9 @@ impl Gathered {
         Ok(())
     }
 
-    fn take_loss(&mut self, loss: LossRecord, place: usize) -> Result<(), FileFault> {
+    fn take_loss(&mut self, loss: LossRecord, place: usize) -> Result<(), FileFault>
+        ensures { λ r. ⌜ made r (λ _. said (now (self .exit)) ≡ plus (said (now (self .entry))) (Loss loss)) ⌝ }
+    {
         let k = usize::from(loss.line).saturating_sub(1);
         if k >= self.losses.len() {
             return Err(FileFault::Name { place });
