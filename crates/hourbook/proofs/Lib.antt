@@ -19,3 +19,4 @@ pub mod Owns
 pub mod Stands
 pub mod BitLaws
 pub mod Kept
+pub mod Collect

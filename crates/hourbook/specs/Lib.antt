@@ -45,3 +45,4 @@ pub mod Hours
 pub mod OwnershipRead
 pub mod TablesRead
 pub mod SortedRecords
+pub mod Collecting

@@ -3,7 +3,6 @@ use mathlib.Core.List.{List, [], _∷_, _++_, map}
 use Prim.Native.Nat.{ℕ, _+_, _-_}
 use lib.IntN.{ℤ}
 use lib.ListN.{length, replicate, set}
-use Rattle.std.specs.Iters.{folded}
 use Rattle.std.specs.Of.Vec.{vec-items}
 use Rattle.hourbook.specs.declared.hourfile.border.Border as border
 use Rattle.hourbook.specs.declared.hourfile.gathered.Gathered.{Gathered}
@@ -50,6 +49,3 @@ plus s (Factor x) = s
 plus s (Loss x) = record { prices = s .prices; positions = s .positions; borders = s .borders; legs = s .legs; losses = set (s .losses) (x .line - 1) (x .loss); owners = s .owners }
 plus s (Owner x) = record { prices = s .prices; positions = s .positions; borders = s .borders; legs = s .legs; losses = s .losses; owners = s .owners ++ (x ∷ []) }
 plus s End = s
-
-abbrev pub sorted : ℕ → List Record → Sorted
-sorted lines rs = folded plus (unsorted lines) rs

@@ -1,6 +1,7 @@
 //! The records of an hour file, sorted by kind.
 ghost use mathlib.Core.Path.{_≡_};
 ghost use Rattle.std.specs.Vec.{made};
+ghost use Rattle.hourbook.specs.Collecting.{Collected};
 ghost use Rattle.hourbook.specs.Naming.{census-lines};
 ghost use Rattle.hourbook.specs.SortedRecords.{plus, said, unsorted};
 ghost use Rattle.hourbook.specs.declared.hourfile.«record».Record.the-variants.{Zone, Border as RecordBorder, Leg, Loss};
@@ -55,10 +56,15 @@ impl Gathered {
     }
 
     // The records of a lawful file. Numbers are tested again on the way, since tables hold only such as are lawful.
-    pub(crate) fn of(heap: Global, bytes: &[u8], census: Census) -> Result<Gathered, FileFault> {
+    pub(crate) fn of(heap: Global, bytes: &[u8], census: Census) -> Result<Gathered, FileFault>
+        ensures { λ r. ⌜ made r (λ g. Collected (now (bytes .entry)) (census-lines census) (said g)) ⌝ }
+    {
         let mut gathered = Gathered::new(heap, census)?;
-        for (i, record) in Records::of(bytes).enumerate() {
-            gathered.take(record, i + 1)?;
+        let mut records = Records::of(bytes);
+        let mut place = 0;
+        while let Some(record) = records.next() {
+            place += 1;
+            gathered.take(record, place)?;
         }
         Ok(gathered)
     }
