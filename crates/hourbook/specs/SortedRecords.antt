@@ -32,7 +32,7 @@ said g = record {
   borders = map border-said (vec-items (g .borders));
   legs = vec-items (g .legs);
   losses = vec-items (g .losses);
-  owners = vec-items (g .owners)
+  owners = vec-items (g .owners);
 }
 
 -- so many lines without a loss, and nothing else yet

@@ -4,7 +4,8 @@ ghost use mathlib.Core.Path.{_≡_};
 ghost use Prim.Native.Nat.{_≤_};
 ghost use Rattle.std.specs.Of.Vec.{vec-items};
 ghost use Rattle.std.specs.Vec.{made};
-ghost use Rattle.hourbook.specs.TablesRead.{Tabled};
+ghost use Rattle.hourbook.specs.SortedRecords.{said};
+ghost use Rattle.hourbook.specs.TablesRead.{Describes, Tabled};
 ghost use Rattle.hourbook.specs.OwnershipRead.{leg-told, legs-of-line, line-said, line-told, lines-told, rows-of-leg, told};
 use crate::hourfile::census::Census;
 use crate::hourfile::fault::FileFault;
@@ -28,15 +29,18 @@ use std::alloc::Global;
 
 // The tables of a lawful file, or the first rule that the file breaks. Judging allocates nothing, so want of memory is
 // answered only for a lawful file.
-pub(crate) fn read(heap: Global, bytes: &[u8]) -> Result<HourFile, FileFault> {
+pub(crate) fn read(heap: Global, bytes: &[u8]) -> Result<HourFile, FileFault>
+    ensures { λ r. ⌜ made r (Describes (now (bytes .entry))) ⌝ }
+{
     let census = judge(bytes)?;
     let gathered = Gathered::of(heap, bytes, census)?;
-    tables_of(heap, census, gathered)
+    let file = tables_of(heap, census, gathered)?;
+    Ok(file)
 }
 
 // The tables of a file's sorted records.
 fn tables_of(heap: Global, census: Census, gathered: Gathered) -> Result<HourFile, FileFault>
-    ensures { λ r. ⌜ made r (Tabled census gathered) ⌝ }
+    ensures { λ r. ⌜ made r (Tabled census (said gathered)) ⌝ }
 {
     let legs = gathered.legs.as_slice();
     let lines = owned_lines(heap, census.lines(), legs, gathered.owners.as_slice())?;
