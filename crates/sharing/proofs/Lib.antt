@@ -1,0 +1,6 @@
+pub mod Totals
+pub mod Counted
+pub mod Division
+pub mod Writing
+pub mod Turn
+pub mod Judging

@@ -1,0 +1,4 @@
+pub mod Shares
+pub mod Writes
+pub mod Faults
+pub mod Answers

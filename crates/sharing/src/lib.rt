@@ -1,0 +1,16 @@
+//! Sharing an amount over rows by weight, so that no cent is lost.
+mod amount;
+mod fault;
+mod keeping;
+mod rows;
+
+pub use amount::LARGEST_AMOUNT;
+pub use amount::share;
+pub use fault::SharingFault;
+pub use keeping::Keeping;
+pub use keeping::Plain;
+pub use keeping::PlainKeeping;
+pub use rows::LARGEST_WEIGHT_SUM;
+pub use rows::Receiving;
+pub use rows::Weighted;
+pub use rows::weigh;
