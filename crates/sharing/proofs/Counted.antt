@@ -47,3 +47,7 @@ counted-positive ws h = elim (zero-or-more (total ws)) [
   | inl e ↦ omega (arith, counted-none ws e)
   | inr p ↦ omega (arith, ap total (counted-some ws p))
 ]
+
+-- the counted weight at a place, from the weight there
+pub counted-weight : (ws : List ℕ) (k : ℕ) → k < length ws → getD (counted ws) k 0 ≡ counts-as (total ws) (getD ws k 0)
+counted-weight ws k h = getD-map (counts-as (total ws)) ws k 0 0 h

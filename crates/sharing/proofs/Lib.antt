@@ -4,3 +4,5 @@ pub mod Division
 pub mod Writing
 pub mod Turn
 pub mod Judging
+pub mod Lawful
+pub mod Through

@@ -8,6 +8,7 @@ ghost use Rattle.std.specs.Results.{isOk};
 ghost use Rattle.sharing.specs.Shares.{total, counted, shares};
 ghost use Rattle.sharing.specs.Writes.{written, cells};
 ghost use Rattle.sharing.specs.Answers.{judged};
+ghost use Rattle.sharing.specs.Laws.{Fair};
 use crate::fault::SharingFault;
 use crate::keeping::Keeping;
 use crate::rows::LARGEST_WEIGHT_SUM;
@@ -47,7 +48,7 @@ fn spread<X: Copy, R: Weighted, K: Keeping<R, X>>(
 }
 
 // Shares `amount` over the rows by weight. What `keeper` keeps of each row and its share stands in `out` from the
-// place `at` on; every other place keeps its contents. A refusal writes nothing.
+// place `at` on; every other place keeps its contents. A refusal writes nothing. `fair` says what holds of the shares.
 pub fn share<X: Copy, R: Weighted, K: Keeping<R, X>>(
     amount: u64,
     rows: &[R],
@@ -57,6 +58,7 @@ pub fn share<X: Copy, R: Weighted, K: Keeping<R, X>>(
 ) -> Result<(), SharingFault>
     ensures answer { λ r. ⌜ r ≡ judged amount (map (R·Weighted .weighs) (now (rows .entry))) (length (now (out .entry))) at ⌝ }
     ensures memory { λ r. ⌜ now (out .exit) ≡ cond (isOk r) (written (now (out .entry)) at (cells (K·Keeping .cell (now (keeper .entry))) (now (rows .entry)) (shares amount (map (R·Weighted .weighs) (now (rows .entry)))))) (now (out .entry)) ⌝ }
+    ensures fair { λ _. ⌜ Fair amount (map (R·Weighted .weighs) (now (rows .entry))) ⌝ }
 {
     // in this form no sum overflows, however large `at` is
     if out.len() < at || out.len() - at < rows.len() {

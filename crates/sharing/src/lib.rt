@@ -2,6 +2,7 @@
 mod amount;
 mod fault;
 mod keeping;
+pub mod laws;
 mod rows;
 
 pub use amount::LARGEST_AMOUNT;
