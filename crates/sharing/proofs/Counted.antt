@@ -9,7 +9,7 @@ use lib.Dec.{eqb}
 use lib.ListN.{length, getD}
 use Rattle.std.proofs.shelf.Lists.{getD-map, length-map}
 use Rattle.std.proofs.shelf.Tests.{ne-eqb}
-use Rattle.sharing.specs.Shares.{total, counts-as, counted}
+use Rattle.sharing.specs.Shares.{total, counts-as, counted, whole}
 
 ones-total : (ws : List ℕ) → total (map (counts-as 0) ws) ≡ length ws
 ones-total [] = refl
@@ -51,3 +51,21 @@ counted-positive ws h = elim (zero-or-more (total ws)) [
 -- the counted weight at a place, from the weight there
 pub counted-weight : (ws : List ℕ) (k : ℕ) → k < length ws → getD (counted ws) k 0 ≡ counts-as (total ws) (getD ws k 0)
 counted-weight ws k h = getD-map (counts-as (total ws)) ws k 0 0 h
+
+-- the sum of the counted weights, from the sum of the weights
+pub whole-is : (ws : List ℕ) → whole ws ≡ cond (eqb (total ws) 0) (length ws) (total ws)
+whole-is ws = elim (zero-or-more (total ws)) [
+  | inl e ↦ counted-none ws e ∙ sym (ap (λ s. cond (eqb s 0) (length ws) s) e)
+  | inr p ↦ ap total (counted-some ws p) ∙ sym (ap (λ b. cond b (length ws) (total ws)) (ne-eqb (total ws) 0 (λ e. omega arith)))
+]
+
+-- weights that pass the limit count as they are
+pub whole-heavy : (ws : List ℕ) → 4000000000 < total ws → 4000000000 < whole ws
+whole-heavy ws h = omega (arith, ap total (counted-some ws (omega arith)))
+
+-- the counted weights keep the limit where the weights and their number do
+pub whole-light : (ws : List ℕ) → total ws ≤ 4000000000 → length ws ≤ 4000000000 → whole ws ≤ 4000000000
+whole-light ws light few = elim (zero-or-more (total ws)) [
+  | inl e ↦ omega (arith, counted-none ws e)
+  | inr p ↦ omega (arith, ap total (counted-some ws p))
+]

@@ -3,6 +3,5 @@ pub mod Counted
 pub mod Division
 pub mod Writing
 pub mod Turn
-pub mod Judging
 pub mod Lawful
 pub mod Through

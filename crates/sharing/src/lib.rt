@@ -1,5 +1,6 @@
 //! Sharing an amount over rows by weight, so that no cent is lost.
 mod amount;
+mod counting;
 mod fault;
 mod keeping;
 pub mod laws;

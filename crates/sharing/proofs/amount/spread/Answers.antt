@@ -1,56 +1,59 @@
 use mathlib.Core.Path.{_≡_, sym, ap, _∙_}
+use mathlib.Core.Bool.{cond}
 use mathlib.Core.List.{map}
-use Prim.Native.Nat.{ℕ, _+_, _-_, _*_, _/_, _<_, _≤_}
-use native.Mathlib.Nat.{mul-le-mul}
+use Prim.Native.Nat.{ℕ, _+_, _<_, _≤_}
 use native.Mathlib.Omega.{arith}
 use lib.ListN.{length, getD}
 use Rattle.std.proofs.shelf.Lists.{length-map}
-use Rattle.sharing.specs.Shares.{counted}
+use Rattle.sharing.specs.Shares.{counted, part}
 use Rattle.sharing.proofs.Counted.{counted-at, counted-positive, length-counted}
-use Rattle.sharing.proofs.Turn.{underway-start, positive, run-fits, reached-fits, underway-next, underway-end}
+use Rattle.sharing.proofs.Lawful.{fair}
+use Rattle.sharing.proofs.Turn.{underway-start, positive, run-fits, underway-next, underway-end}
 use Rattle.sharing.proofs.amount.spread.Given as given
 use Rattle.sharing.proofs.amount.spread.Needs as need
-use Rattle.sharing.proofs.amount.spread.Needs.{After-counted-weight-run}
+use Rattle.sharing.proofs.amount.spread.Needs.{After-counted-weight}
 
 pub loop-i-holds : need.loop-i-holds
 loop-i-holds g c =
     let ws = map (g .R·Weighted .weighs) (c .args .rows .now) in
-    underway-start _ _ _ _ _ _ _ (c .pre .all) (λ h. rw (c .pre .all) (counted-positive ws (rw length-counted at h))) (sym (length-counted _ ∙ length-map (c .args .rows .now) _)) (rw (length-counted, length-map) (c .pre .room))
+    let rows = length-counted ws ∙ length-map (c .args .rows .now) (g .R·Weighted .weighs) in
+    underway-start _ _ _ _ _ _ _ (c .pre .counts .sum) (λ h. rw (c .pre .counts .sum) (counted-positive ws (rw length-counted at h))) (sym rows) (rw (length-counted, length-map) (c .pre .room))
 
-inside : (g : given.Over) (c : need.After-counted-weight-run g) → c .loop-i .i < length (counted (map (g .R·Weighted .weighs) (c .args .rows .now)))
-inside g c = rw (length-counted, length-map) (c .loop-i-test .taken)
+module _ (g : given.Over) (c : need.After-counted-weight g) where
+  inside : c .loop-i .i < length (counted (map (g .R·Weighted .weighs) (c .args .rows .now)))
+  inside = rw (length-counted, length-map) (c .loop-i-test .taken)
 
--- what the row at hand counts with
-weight-is : (g : given.Over) (c : need.After-counted-weight-run g) → c .counted-weight-run .result ≡ getD (counted (map (g .R·Weighted .weighs) (c .args .rows .now))) (c .loop-i .i) 0
-weight-is g c =
-    let at = counted-at (g .R·Weighted .weighs) (c .args .rows .now) (c .loop-i .i) _ (c .loop-i-test .taken) (c .index-rows-i .is) in
-    cc
+  -- what the row at hand counts with
+  weight-is : c .counted-weight .result ≡ getD (counted (map (g .R·Weighted .weighs) (c .args .rows .now))) (c .loop-i .i) 0
+  weight-is =
+      c .counted-weight .ensures
+      ∙ (ap (λ b. cond b 1 (g .R·Weighted .weighs (c .index-rows-i .result))) (c .pre .counts .equal)
+      ∙ sym (counted-at (g .R·Weighted .weighs) (c .args .rows .now) (c .loop-i .i) _ (c .loop-i-test .taken) (c .index-rows-i .is)))
 
-run-is : (g : given.Over) (c : need.After-counted-weight-run g) → c .loop-i .run + c .counted-weight-run .result ≤ 4000000000
-run-is g c = omega (arith, run-fits _ _ _ _ _ _ _ _ _ _ _ _ (c .loop-i .inv) (inside g c) (weight-is g c), c .pre .light)
+  fits : c .loop-i .run + c .counted-weight .result ≤ c .args .counting .sum
+  fits = run-fits _ _ _ _ _ _ _ _ _ _ _ (c .loop-i .inv) inside weight-is
 
-pub add-run : need.add-run
-add-run g c = omega (arith, run-is g c)
+pub add-next : need.add-next
+add-next g c = omega (arith, fits g c, c .pre .counts .light)
 
-pub mul-reached : need.mul-reached
-mul-reached g c = omega (arith, mul-le-mul (c .pre .small) (run-is g c))
-
-pub div-reached : need.div-reached
-div-reached g c = positive _ _ _ _ _ _ _ _ _ _ _ _ (c .loop-i .inv) (inside g c) (weight-is g c)
-
-reached : (g : given.Over) (c : need.After-counted-weight-run g) → (c .loop-i .given ≤ c .args .amount * (c .loop-i .run + c .counted-weight-run .result) / c .args .whole) × (c .args .amount * (c .loop-i .run + c .counted-weight-run .result) / c .args .whole ≤ c .args .amount)
-reached g c = reached-fits _ _ _ _ _ _ _ _ _ _ _ _ (c .loop-i .inv) (inside g c) (weight-is g c)
-
-pub sub-reached : need.sub-reached
-sub-reached g c = reached g (need.at·sub-reached g c .After-counted-weight-run) .0
-
-pub cast-reached : need.cast-reached
-cast-reached g c = omega (arith, reached g (need.at·cast-reached g c .After-counted-weight-run) .1, c .pre .small)
+pub share-between-requires : need.share-between-requires
+share-between-requires g c κs =
+    let b = need.at·share-between-requires g c .After-counted-weight in
+    record {
+      small = c .pre .small;
+      some = positive _ _ _ _ _ _ _ _ _ _ _ (c .loop-i .inv) (inside g b) (weight-is g b);
+      rises = omega arith;
+      within = fits g b;
+      light = c .pre .counts .light;
+    }
 
 pub loop-i-again : need.loop-i-again
 loop-i-again g c =
-    let b = need.at·loop-i-again g c .After-counted-weight-run in
-    rw (c .keep .ensures) (underway-next _ _ _ _ _ _ _ _ _ _ _ _ (c .loop-i .inv) (inside g b) (weight-is g b) _ (c .index-rows-i .is))
+    let b = need.at·loop-i-again g c .After-counted-weight in
+    rw (c .keep .ensures, c .share-between .ensures) (underway-next _ _ _ _ _ _ _ _ _ _ _ (c .loop-i .inv) (inside g b) (weight-is g b) _ (c .index-rows-i .is))
 
 pub returns : need.returns
-returns g c = underway-end _ _ _ _ _ _ _ _ _ _ _ (c .loop-i .inv) (rw (length-counted, length-map) (c .loop-i-test .left))
+returns g c = record {
+  memory = underway-end _ _ _ _ _ _ _ _ _ _ (c .loop-i .inv) (rw (length-counted, length-map) (c .loop-i-test .left));
+  fair = fair (c .args .amount) (map (g .R·Weighted .weighs) (c .args .rows .now));
+}

@@ -5,4 +5,4 @@ use Rattle.sharing.proofs.amount.spread.Given as given
 
 abbrev pub Inv-loop-i : given.InvT-loop-i
 Inv-loop-i g l =
-    Underway (g .K·Keeping .cell (l .keeper)) (l .rows) (l .amount) (l .whole) (counted (map (g .R·Weighted .weighs) (l .rows))) (l .entry .out) (l .at) (l .i) (l .run) (l .given) (l .out)
+    Underway (g .K·Keeping .cell (l .keeper)) (l .rows) (l .amount) (l .counting .sum) (counted (map (g .R·Weighted .weighs) (l .rows))) (l .entry .out) (l .at) (l .i) (l .run) (l .out)

@@ -3,10 +3,10 @@ use mathlib.Core.Path.{_≡_}
 use Rattle.sharing.proofs.Totals.{total-next, total-end}
 use Rattle.sharing.proofs.rows.weigh.Needs as need
 
-pub returns-then-w-sum : need.returns-then-w-sum
-returns-then-w-sum g c =
+pub returns-in-Break-sum : need.returns-in-Break-sum
+returns-in-Break-sum g c =
     let next = total-next (g .R·Weighted .weighs) (c .args .rows .now) (c .loop-row .row-index) _ (c .loop-row-test .taken) (c .row-item .is) in
-    omega arith
+    rw (c .from-residual .ensures) (omega (arith, c .in-Break-sum .ensures tt))
 
 pub loop-row-again : need.loop-row-again
 loop-row-again g c =
