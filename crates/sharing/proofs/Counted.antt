@@ -59,6 +59,9 @@ whole-is ws = elim (zero-or-more (total ws)) [
   | inr p ↦ ap total (counted-some ws p) ∙ sym (ap (λ b. cond b (length ws) (total ws)) (ne-eqb (total ws) 0 (λ e. omega arith)))
 ]
 
+pub whole-from : (ws : List ℕ) (sum rows : ℕ) → sum ≡ total ws → rows ≡ length ws → cond (eqb sum 0) rows sum ≡ whole ws
+whole-from ws sum rows e f = ap (λ s. cond (eqb s 0) rows s) e ∙ (ap (λ n. cond (eqb (total ws) 0) n (total ws)) f ∙ sym (whole-is ws))
+
 -- weights that pass the limit count as they are
 pub whole-heavy : (ws : List ℕ) → 4000000000 < total ws → 4000000000 < whole ws
 whole-heavy ws h = omega (arith, ap total (counted-some ws (omega arith)))

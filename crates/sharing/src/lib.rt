@@ -16,3 +16,6 @@ pub use rows::LARGEST_WEIGHT_SUM;
 pub use rows::Receiving;
 pub use rows::Weighted;
 pub use rows::weigh;
+
+#[cfg(test)]
+mod tests;
