@@ -1,7 +1,7 @@
 -- Quotients by one divisor, and what lies part two of them. Assumes nothing.
 use mathlib.Core.Path.{_≡_, ap, _∙_}
 use Prim.Native.Nat.{ℕ, _+_, _-_, _*_, _/_, _<_, _≤_}
-use native.Mathlib.Nat.{mul-add, add-mul, mul-comm, one-mul, mul-le-mul-left, mul-le-mul-right, div-mul-le-self, lt-div-mul-add, lt-of-mul-lt-mul-right}
+use native.Mathlib.Nat.{mul-add, add-mul, mul-comm, one-mul, mul-le-mul-left, mul-le-mul-right, div-mul-le-self, lt-div-mul-add, lt-of-mul-lt-mul-right, mul-div-cancel}
 use native.Mathlib.Omega.{arith}
 use Rattle.std.proofs.shelf.Bits.{le-div}
 use Rattle.sharing.specs.Shares.{part}
@@ -38,3 +38,10 @@ part-within t n a w pos le =
     let most : t * w ≤ n * w = mul-le-mul-right w le in
     let under : part t n a (a + w) * n < (w + 1) * n = omega (arith, add-mul w 1 n, mul-comm n w, one-mul n) in
     omega (arith, lt-of-mul-lt-mul-right n under)
+
+-- no row gets more than the amount
+pub part-small : (t n a b : ℕ) → 0 < n → b ≤ n → part t n a b ≤ t
+part-small t n a b pos le =
+    let top = reach-mono t n b n pos le in
+    let all : t * n / n ≡ t = mul-div-cancel t pos in
+    omega arith

@@ -5,3 +5,4 @@ pub mod Writing
 pub mod Turn
 pub mod Lawful
 pub mod Through
+pub mod Cells

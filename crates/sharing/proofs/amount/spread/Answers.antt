@@ -7,6 +7,7 @@ use lib.ListN.{length, getD}
 use Rattle.std.proofs.shelf.Lists.{length-map}
 use Rattle.sharing.specs.Shares.{counted, part}
 use Rattle.sharing.proofs.Counted.{counted-at, counted-positive, length-counted}
+use Rattle.sharing.proofs.Division.{part-small}
 use Rattle.sharing.proofs.Lawful.{fair}
 use Rattle.sharing.proofs.Turn.{underway-start, positive, run-fits, underway-next, underway-end}
 use Rattle.sharing.proofs.amount.spread.Given as given
@@ -46,6 +47,12 @@ share-between-requires g c κs =
       within = fits g b;
       light = c .pre .counts .light;
     }
+
+pub keep-requires : need.keep-requires
+keep-requires g c κs =
+    let b = need.at·keep-requires g c .After-counted-weight in
+    let low = part-small (c .args .amount) (c .args .counting .sum) (c .loop-i .run) (c .loop-i .run + c .counted-weight .result) (positive _ _ _ _ _ _ _ _ _ _ _ (c .loop-i .inv) (inside g b) (weight-is g b)) (fits g b) in
+    omega (arith, c .share-between .ensures, c .pre .small)
 
 pub loop-i-again : need.loop-i-again
 loop-i-again g c =
