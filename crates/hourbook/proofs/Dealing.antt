@@ -1,13 +1,13 @@
 -- A loop that deals amount after amount into memory: what stands at turn i, one turn, and the end. Assumes nothing.
 use mathlib.Core.Path.{_≡_, refl, sym, ap, _∙_}
 use mathlib.Core.List.{List, [], _∷_, _++_, map}
-use Prim.Native.Nat.{ℕ, zero, suc, _+_, _<_, _≤_}
+use Prim.Native.Nat.{ℕ, _+_, _<_, _≤_}
 use native.Mathlib.Omega.{arith}
 use lib.IntN.{ℤ, pos, natAbs}
-use lib.ListN.{length, getD, drop, set}
+use lib.ListN.{length, getD, drop}
 use mir.Val.{toZ, ofZ}
 use mir.Syntax.{w64}
-use Rattle.std.proofs.shelf.Lists.{at-drop-more, at-drop-all, map-append, length-append, getD-append-left, getD-map, length-map}
+use Rattle.std.proofs.shelf.Lists.{at-drop-more, at-drop-all, length-append, getD-append-left, getD-map, length-map}
 use Rattle.sharing.specs.Shares.{total, shares}
 use Rattle.sharing.specs.Writes.{written}
 use Rattle.sharing.specs.Levels.{dealt}

@@ -1,9 +1,9 @@
 -- The laws of sharing. Assumes nothing.
 use mathlib.Core.Path.{_≡_, refl, sym, ap, _∙_}
 use mathlib.Core.List.{List, [], _∷_}
-use mathlib.Core.Logic.{_⊎_, inl, inr}
-use Prim.Native.Nat.{ℕ, zero, suc, _+_, _-_, _*_, _/_, _<_, _≤_}
-use native.Mathlib.Nat.{zero-add, add-zero, add-assoc, add-mul, mul-zero, zero-mul, zero-div, mul-div-cancel, lt-of-mul-lt-mul-right}
+use mathlib.Core.Logic.{inl, inr}
+use Prim.Native.Nat.{ℕ, zero, suc, _+_, _-_, _*_, _/_, _<_}
+use native.Mathlib.Nat.{zero-add, add-assoc, add-mul, mul-zero, zero-mul, zero-div, mul-div-cancel, lt-of-mul-lt-mul-right}
 use native.Mathlib.Omega.{arith}
 use lib.ListN.{length, getD, take}
 use Rattle.sharing.specs.Shares.{total, counts-as, cumulative, counted, whole, part, shares-from, shares}

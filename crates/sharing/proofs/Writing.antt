@@ -1,10 +1,10 @@
 -- Laws of writing at a place. Assumes nothing.
-use mathlib.Core.Path.{_≡_, refl, sym, ap, _∙_}
+use mathlib.Core.Path.{_≡_, sym, ap, _∙_}
 use mathlib.Core.List.{List, [], _∷_, _++_}
-use Prim.Native.Nat.{ℕ, suc, _+_, _-_, _<_, _≤_}
+use Prim.Native.Nat.{ℕ, suc, _+_, _<_, _≤_}
 use native.Mathlib.Omega.{arith}
-use lib.ListN.{length, getD, take, drop, set}
-use Rattle.std.proofs.shelf.Lists.{append-nil, append-assoc, take-append-drop, take-more-set, drop-set-lt, length-append, length-take-le, length-drop, take-at, drop-at, drop-drop}
+use lib.ListN.{length, take, drop, set}
+use Rattle.std.proofs.shelf.Lists.{append-assoc, take-append-drop, take-more-set, drop-set-lt, length-append, length-take-le, length-drop, take-at, drop-at, drop-drop}
 use Rattle.sharing.specs.Writes.{written}
 
 module _ {X : Type 0} where

@@ -35,6 +35,8 @@ abbrev pub shares-from : ℕ → ℕ → ℕ → List ℕ → List ℕ
 shares-from t n c [] = []
 shares-from t n c (w ∷ ws) = part t n c (c + w) ∷ shares-from t n (c + w) ws
 
--- the shares of the amount t over rows with the weights ws, in order
+-- the shares of the amount t over rows with the weights ws, in order. Row k of n receives
+--     ⌊T × C(k) / C(n)⌋ − ⌊T × C(k−1) / C(n)⌋
+-- which is the law Is-between-rounded-sums (Laws), and the contract of the public `share` names it.
 abbrev pub shares : ℕ → List ℕ → List ℕ
 shares t ws = shares-from t (whole ws) 0 (counted ws)

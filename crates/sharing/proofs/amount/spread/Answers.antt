@@ -1,11 +1,11 @@
 use mathlib.Core.Path.{_≡_, sym, ap, _∙_}
 use mathlib.Core.Bool.{cond}
 use mathlib.Core.List.{map}
-use Prim.Native.Nat.{ℕ, _+_, _<_, _≤_}
+use Prim.Native.Nat.{_+_, _<_, _≤_}
 use native.Mathlib.Omega.{arith}
 use lib.ListN.{length, getD}
 use Rattle.std.proofs.shelf.Lists.{length-map}
-use Rattle.sharing.specs.Shares.{counted, part}
+use Rattle.sharing.specs.Shares.{counted}
 use Rattle.sharing.proofs.Counted.{counted-at, counted-positive, length-counted}
 use Rattle.sharing.proofs.Division.{part-small}
 use Rattle.sharing.proofs.Lawful.{fair}

@@ -1,5 +1,4 @@
 use native.Mathlib.Omega.{arith}
-use mathlib.Core.Path.{_≡_}
 use Rattle.sharing.proofs.Totals.{total-next, total-end}
 use Rattle.sharing.proofs.rows.weigh.Needs as need
 

@@ -1,15 +1,14 @@
-use mathlib.Core.Path.{_≡_, refl, ap, sym, _∙_}
+use mathlib.Core.Path.{_≡_, refl, ap, _∙_}
 use mathlib.Core.List.{map}
 use lib.IntN.{pos, natAbs}
 use mir.Val.{toZ, ofZ}
 use mir.Syntax.{w64}
-use Prim.Native.Nat.{ℕ, _<_}
+use Prim.Native.Nat.{_<_}
 use native.Mathlib.Omega.{arith}
-use borrow.Author.Needs.{needs}
 use lib.ListN.{length, getD, replicate}
 use Rattle.std.proofs.shelf.Lists.{length-map}
 use Rattle.std.specs.Of.Vec.{vec-items}
-use Rattle.sharing.specs.Shares.{total, shares}
+use Rattle.sharing.specs.Shares.{shares}
 use Rattle.sharing.specs.Writes.{written}
 use Rattle.sharing.proofs.Lawful.{adds, length-shares}
 use Rattle.sharing.proofs.Cells.{cells-plain, accepted-memory}

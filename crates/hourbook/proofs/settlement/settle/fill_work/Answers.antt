@@ -1,10 +1,10 @@
-use mathlib.Core.Path.{_≡_, refl, sym, ap, _∙_}
-use mathlib.Core.List.{List, map, _++_}
-use Prim.Native.Nat.{ℕ, _+_, _≤_}
+use mathlib.Core.Path.{_≡_, ap, _∙_}
+use mathlib.Core.List.{List, map}
+use Prim.Native.Nat.{ℕ, _≤_}
 use native.Mathlib.Omega.{arith}
-use lib.IntN.{ℤ, pos}
+use lib.IntN.{pos}
 use lib.ListN.{length, take}
-use Rattle.std.proofs.shelf.Lists.{map-append, length-map}
+use Rattle.std.proofs.shelf.Lists.{length-map}
 use Rattle.hourbook.specs.declared.settlement.line_row.LineRow.{LineRow}
 use Rattle.sharing.specs.Shares.{total, shares}
 use Rattle.sharing.specs.Writes.{written, cells}

@@ -1,6 +1,5 @@
-use mathlib.Core.Path.{_≡_, refl, sym, ap, _∙_}
+use mathlib.Core.Path.{_≡_, ap, _∙_}
 use native.Mathlib.Omega.{arith}
-use borrow.Author.Needs.{needs}
 use lib.IntN.{pos, negsuc, natAbs}
 use lib.Signed.{_≤ℤ_}
 use Rattle.sharing.specs.Writes.{written}
@@ -11,7 +10,7 @@ use Rattle.hourbook.specs.Rows.{credit-row, directed}
 use mathlib.Core.List.{map}
 use Rattle.std.specs.Of.Vec.{vec-items}
 use Rattle.std.proofs.shelf.Lists.{length-map}
-use Rattle.std.proofs.shelf.Signed.{ints, toZ-ofZ}
+use Rattle.std.proofs.shelf.Signed.{ints}
 use Rattle.hourbook.proofs.Dealing.{length-lines}
 use Rattle.hourbook.proofs.Parts.{ones-total, loss, needed-loss, needed-income}
 use Rattle.hourbook.proofs.settlement.settle.pay.Needs as need
