@@ -5,7 +5,7 @@ use Prim.Native.Nat.{ℕ, _+_, _<_, _≤_}
 use lib.IntN.{ℤ, pos, natAbs, _+ℤ_}
 use lib.ListN.{length, getD, drop}
 use Rattle.std.proofs.shelf.Lists.{at-drop-more, at-drop-all}
-use Rattle.hourbook.specs.Shares.{total}
+use Rattle.sharing.specs.Shares.{total}
 use Rattle.hourbook.specs.SignedSums.{sumZ}
 
 module _ {X : Type 0} (f : X → ℤ) (xs : List X) (i : ℕ) where

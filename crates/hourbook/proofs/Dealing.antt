@@ -1,49 +1,40 @@
 -- A loop that deals amount after amount into memory: what stands at turn i, one turn, and the end. Assumes nothing.
 use mathlib.Core.Path.{_≡_, refl, sym, ap, _∙_}
-use mathlib.Core.Bool.{true, false}
 use mathlib.Core.List.{List, [], _∷_, _++_, map}
-use Prim.Native.Nat.{ℕ, zero, suc, _+_, _<_, _≤_}
+use Prim.Native.Nat.{ℕ, _+_, _<_, _≤_}
 use native.Mathlib.Omega.{arith}
 use lib.IntN.{ℤ, pos, natAbs}
-use lib.ListN.{length, getD, drop, set}
+use lib.ListN.{length, getD, drop}
 use mir.Val.{toZ, ofZ}
 use mir.Syntax.{w64}
-use Rattle.std.proofs.shelf.Lists.{at-drop-more, at-drop-all, map-append, length-append, getD-append-left, getD-map, length-map}
-use Rattle.hourbook.specs.Shares.{total, shares-from, shares, counted}
-use Rattle.hourbook.specs.Writes.{written, mark}
-use Rattle.hourbook.proofs.Counted.{length-counted}
+use Rattle.std.proofs.shelf.Lists.{at-drop-more, at-drop-all, length-append, getD-append-left, getD-map, length-map}
+use Rattle.sharing.specs.Shares.{total, shares}
+use Rattle.sharing.specs.Writes.{written}
+use Rattle.sharing.specs.Levels.{dealt}
+use Rattle.sharing.proofs.Lawful.{length-shares}
+use Rattle.sharing.proofs.Through.{dealt-none, length-dealt}
 use Rattle.std.proofs.shelf.Signed.{ints, toZ-ofZ}
-use Rattle.hourbook.proofs.Turn.{length-cells}
-use Rattle.hourbook.proofs.Writing.{written-none, written-append, length-written}
+use Rattle.sharing.proofs.Cells.{length-cells}
+use Rattle.sharing.proofs.Writing.{written-none, written-append, length-written}
 use Rattle.std.specs.Of.Vec.{vec-items}
 use Rattle.hourbook.specs.declared.hourfile.owned_leg.OwnedLeg.{OwnedLeg}
 use Rattle.hourbook.specs.declared.hourfile.owned_line.OwnedLine.{OwnedLine}
 use Rattle.hourbook.specs.Owners.{keys}
-use Rattle.hourbook.specs.Rows.{credit-row}
+use Rattle.hourbook.specs.Rows.{credit-row, directed}
+use Rattle.hourbook.specs.declared.entry.credit.Direction.the-variants.{Received}
 use Rattle.hourbook.specs.declared.entry.credit.Origin.{Origin}
 use Rattle.hourbook.specs.Legs.{contributions}
-use Rattle.hourbook.specs.Deals.{dealt, leg-deal, line-deal}
+use Rattle.hourbook.specs.Deals.{leg-deal, line-deal}
 use Rattle.hourbook.specs.OwnerRows.{leg-rows, line-rows, rows-of}
 
-length-from : (t n c : ℕ) (ws : List ℕ) → length (shares-from t n c ws) ≡ length ws
-length-from t n c [] = refl
-length-from t n c (w ∷ ws) = ap suc (length-from t n (c + w) ws)
-
-pub length-shares : (t : ℕ) (ws : List ℕ) → length (shares t ws) ≡ length ws
-length-shares t ws = length-from t _ 0 (counted ws) ∙ length-counted ws
-
 -- what a share in memory reads as
-pub abs-mark : (n : ℕ) → n ≤ 2000000000 → natAbs (toZ w64 (ofZ w64 (mark false n))) ≡ n
-abs-mark n h = ap natAbs (toZ-ofZ w64 (mark false n) (omega (arith, ints)))
+pub abs-share : (n : ℕ) → n ≤ 2000000000 → natAbs (toZ w64 (ofZ w64 (pos n))) ≡ n
+abs-share n h = ap natAbs (toZ-ofZ w64 (pos n) (omega (arith, ints)))
 
-pub read-written : (m : List ℤ) (ss : List ℕ) (i : ℕ) → i < length ss → getD (written m 0 (map (mark false) ss)) i (pos 0) ≡ mark false (getD ss i 0)
+pub read-written : (m : List ℤ) (ss : List ℕ) (i : ℕ) → i < length ss → getD (written m 0 (map pos ss)) i (pos 0) ≡ pos (getD ss i 0)
 read-written m ss i h =
-    getD-append-left (map (mark false) ss) (drop (0 + length (map (mark false) ss)) m) (pos 0) i (omega (arith, length-map ss (mark false)))
-    ∙ getD-map (mark false) ss i 0 (pos 0) h
-
-pub dealt-none : {X Y : Type 0} (deal : ℕ → X → List Y) (ts : List ℕ) → dealt deal ts [] ≡ []
-dealt-none deal [] = refl
-dealt-none deal (t ∷ ts) = refl
+    getD-append-left (map pos ss) (drop (0 + length (map pos ss)) m) (pos 0) i (omega (arith, length-map ss pos))
+    ∙ getD-map pos ss i 0 (pos 0) h
 
 -- the first i of the amounts ts are dealt, from `at` up to `place`
 pub record Dealing {X Y : Type 0} (deal : ℕ → X → List Y) (ts : List ℕ) (xs : List X) (before : List Y) (at i place : ℕ) (out : List Y) : Type 0 where
@@ -103,18 +94,10 @@ pub some-rows : (ws : List ℕ) → 0 < total ws → 0 < length ws
 some-rows [] h = omega arith
 some-rows (w ∷ ws) h = omega arith
 
--- where each deal has as many rows as its x, all have as many as all xs
-pub length-dealt : {X Y : Type 0} (deal : ℕ → X → List Y) (rows : X → ℕ) → ((t : ℕ) (x : X) → length (deal t x) ≡ rows x) → (ts : List ℕ) (xs : List X) → length xs ≤ length ts → length (dealt deal ts xs) ≡ total (map rows xs)
-length-dealt deal rows each [] [] h = refl
-length-dealt deal rows each [] (x ∷ xs) h = absurd (omega arith)
-length-dealt deal rows each (t ∷ ts) [] h = refl
-length-dealt deal rows each (t ∷ ts) (x ∷ xs) h =
-    omega (arith, length-append (deal t x) (dealt deal ts xs), each t x, length-dealt deal rows each ts xs (omega arith))
-
 pub length-leg : (origin : Origin) (line t : ℕ) (leg : OwnedLeg) → length (leg-deal origin line t leg) ≡ leg-rows leg
 length-leg origin line t leg =
     let rows = vec-items (leg .owners) in
-    length-cells (λ r. credit-row origin line (leg .number) (r .owner)) false rows (shares t (keys rows)) (length-shares t (keys rows) ∙ length-map rows (λ r. r .key))
+    length-cells (λ r s. credit-row origin line (leg .number) (r .owner) (directed Received s)) rows (shares t (keys rows)) (length-shares t (keys rows) ∙ length-map rows (λ r. r .key))
 
 pub length-line : (origin : Origin) (t : ℕ) (line : OwnedLine) → length (line-deal origin t line) ≡ line-rows line
 length-line origin t line =

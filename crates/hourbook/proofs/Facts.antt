@@ -10,8 +10,8 @@ use Rattle.std.specs.declared.option.Option.the-variants.{Some, None}
 use Rattle.std.proofs.shelf.Bits.{mul-le}
 use Rattle.std.proofs.shelf.Maps.{nth-getD}
 use Rattle.std.proofs.shelf.Lists.{at-drop-more, getD-map}
-use Rattle.hourbook.specs.Writes.{written}
-use Rattle.hourbook.proofs.Writing.{written-set}
+use Rattle.sharing.specs.Writes.{written}
+use Rattle.sharing.proofs.Writing.{written-set}
 
 abs-neg : (n : ℕ) → natAbs (negℤ (pos n)) ≡ n
 abs-neg zero = refl

@@ -1,9 +1,3 @@
-pub mod Totals
-pub mod Counted
-pub mod Division
-pub mod Lawful
-pub mod Writing
-pub mod Turn
 pub mod Having
 pub mod Dealing
 pub mod Adding

@@ -9,9 +9,9 @@ use Rattle.std.specs.Written.{decimal, signed}
 use Rattle.std.proofs.shelf.Decimals.{decimal-digit, decimal-step, decimal-some}
 use Rattle.std.proofs.shelf.Lists.{append-assoc, append-nil, drop-more, drop-drop, take-more, set-at, set-split, length-append, length-take-le, length-drop, take-append-drop, take-at, drop-at, at-drop-more, at-drop-all}
 use Rattle.hourbook.specs.Text.{fields-of, line-of}
-use Rattle.hourbook.specs.Writes.{written}
+use Rattle.sharing.specs.Writes.{written}
 use Rattle.hourbook.specs.Wrote.{Wrote}
-use Rattle.hourbook.proofs.Writing.{length-written, written-append}
+use Rattle.sharing.proofs.Writing.{length-written, written-append}
 
 -- one write after another
 pub then : {a b c : List ℕ} {p q r : ℕ} {xs ys : List ℕ} → Wrote a b p q xs → Wrote b c q r ys → Wrote a c p r (xs ++ ys)

@@ -8,7 +8,7 @@ use lib.IntN.{ℤ, pos, natAbs, _-ℤ_}
 use lib.ListN.{length, getD}
 use Rattle.std.specs.declared.option.Option.{Option}
 use Rattle.std.specs.declared.option.Option.the-variants.{Some, None}
-use Rattle.hourbook.specs.Shares.{total}
+use Rattle.sharing.specs.Shares.{total}
 use Rattle.hourbook.specs.SignedSums.{sumZ}
 use Rattle.hourbook.specs.declared.hourfile.border.Border.{Border}
 use Rattle.hourbook.specs.declared.region.fault.Flaw.{Flaw}

@@ -1,7 +1,7 @@
 -- What the legs of a line contribute.
 use mathlib.Core.List.{List, map}
 use Prim.Native.Nat.{ℕ}
-use Rattle.hourbook.specs.Shares.{total}
+use Rattle.sharing.specs.Shares.{total}
 use Rattle.hourbook.specs.declared.hourfile.owned_leg.OwnedLeg.{OwnedLeg}
 
 abbrev pub contributions : List OwnedLeg → List ℕ

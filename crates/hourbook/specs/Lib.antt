@@ -1,7 +1,4 @@
 pub mod FileFaults
-pub mod Shares
-pub mod SharingLaws
-pub mod Writes
 pub mod Rows
 pub mod Owners
 pub mod Legs

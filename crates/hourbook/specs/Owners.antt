@@ -1,7 +1,7 @@
 -- The keys of a leg's owners.
 use mathlib.Core.List.{List, map}
 use Prim.Native.Nat.{ℕ}
-use Rattle.hourbook.specs.Shares.{total}
+use Rattle.sharing.specs.Shares.{total}
 use Rattle.hourbook.specs.declared.hourfile.owner.OwnerRow.{OwnerRow}
 
 abbrev pub keys : List OwnerRow → List ℕ

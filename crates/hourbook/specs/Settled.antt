@@ -1,6 +1,6 @@
 -- What settling a region gives: when it refuses, and what it writes.
 use mathlib.Core.Path.{_≡_}
-use mathlib.Core.Bool.{true, false, cond}
+use mathlib.Core.Bool.{cond}
 use mathlib.Core.List.{List, map, _++_}
 use Prim.Native.Nat.{ℕ, suc, _*_, _≤_}
 use lib.Dec.{eqb, ltb}
@@ -9,8 +9,8 @@ use lib.ListN.{length}
 use Rattle.std.specs.Of.Vec.{vec-items}
 use Rattle.std.specs.declared.result.Result.{Result}
 use Rattle.std.specs.declared.result.Result.the-variants.{Ok, Err}
-use Rattle.hourbook.specs.Shares.{total, shares}
-use Rattle.hourbook.specs.Writes.{mark}
+use Rattle.sharing.specs.Shares.{total, shares}
+use Rattle.sharing.specs.Levels.{dealt}
 use Rattle.hourbook.specs.declared.entry.credit.Origin.{Origin}
 use Rattle.hourbook.specs.declared.entry.row.Row.{Row}
 use Rattle.hourbook.specs.declared.hourfile.owner.Owner.{Owner}
@@ -20,7 +20,7 @@ use Rattle.hourbook.specs.declared.region.fault.RegionFault.the-variants.{Unso
 use Rattle.hourbook.specs.declared.settlement.fault.SettlementFault.{SettlementFault}
 use Rattle.hourbook.specs.declared.settlement.fault.SettlementFault.the-variants.{Region, Lines, Work, Limit}
 use Rattle.hourbook.specs.OwnerRows.{rows-of}
-use Rattle.hourbook.specs.Deals.{dealt, line-deal, equal-deal}
+use Rattle.hourbook.specs.Deals.{line-deal, equal-deal}
 use Rattle.hourbook.specs.Meaning.{Meaning}
 use Rattle.hourbook.specs.Worths.{income-of, weights}
 
@@ -54,7 +54,7 @@ credit (negsuc n) = 0
 
 -- work memory: the weights of all lines, then their shares
 abbrev pub work-of : Meaning → List ℤ
-work-of m = map (mark false) (weights m ++ shares (credit (income-of m)) (weights m))
+work-of m = map pos (weights m ++ shares (credit (income-of m)) (weights m))
 
 -- the owners' credits: an income's line by line from the lines' shares, a loss in equal parts
 abbrev pub paid : Origin → ℤ → List ℕ → List OwnedLine → List Owner → List Row

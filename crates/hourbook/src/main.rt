@@ -5,7 +5,6 @@ mod hour;
 mod hourfile;
 mod region;
 mod settlement;
-mod sharing;
 
 use hour::Failure;
 use hour::statements;

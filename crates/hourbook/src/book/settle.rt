@@ -9,7 +9,7 @@ ghost use Rattle.std.specs.Vec.{made, refused};
 ghost use Rattle.hourbook.specs.Calls.{settle-judged};
 ghost use Rattle.hourbook.specs.Opening.{Admits, Advanced, lines-in, origin-of};
 ghost use Rattle.hourbook.specs.Settled.{judged, credits-of, needed, work-of};
-ghost use Rattle.hourbook.specs.Writes.{written};
+ghost use Rattle.sharing.specs.Writes.{written};
 use crate::book::OpenBook;
 use crate::book::fault::BookFault;
 use crate::book::fault::BookFromSettlement;

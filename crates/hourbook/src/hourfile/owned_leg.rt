@@ -4,8 +4,8 @@ ghost use Prim.Native.Nat.{_≤_};
 ghost use Rattle.std.specs.Of.Vec.{vec-items, vec-len};
 ghost use Rattle.hourbook.specs.Owners.{key-sum};
 use crate::hourfile::owner::OwnerRow;
-use crate::sharing::Receiving;
-use crate::sharing::Weighted;
+use sharing::Receiving;
+use sharing::Weighted;
 
 // One cable or circuit of a line. The keys of its owners, in file order, add to 10,000.
 #[derive(Drop)]

@@ -1,7 +1,7 @@
 //! The owners of legs.
 ghost use mathlib.Core.Path.{_≡_};
-use crate::sharing::Receiving;
-use crate::sharing::Weighted;
+use sharing::Receiving;
+use sharing::Weighted;
 
 // One owner's key of a leg, in ten-thousandths.
 #[derive(Clone, Copy)]

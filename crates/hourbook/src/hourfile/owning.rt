@@ -17,7 +17,7 @@ use crate::hourfile::owner::OwnerRow;
 use crate::hourfile::owner::OwnerRowWeighted;
 use crate::hourfile::ownership::Ownership;
 use crate::hourfile::rising::gather;
-use crate::sharing::weigh;
+use sharing::weigh;
 use std::alloc::Global;
 
 // A leg, where its keys add to 10,000.

@@ -6,7 +6,7 @@ ghost use lib.IntN.{pos, natAbs};
 ghost use lib.ListN.{length, getD};
 ghost use Rattle.std.specs.Of.Vec.{vec-items};
 ghost use Rattle.std.specs.Orderings.{Decides};
-ghost use Rattle.hourbook.specs.Shares.{total};
+ghost use Rattle.sharing.specs.Shares.{total};
 ghost use Rattle.hourbook.specs.SignedSums.{sumZ};
 ghost use Rattle.hourbook.specs.Tables.{tenths-of};
 ghost use Rattle.hourbook.specs.Balance.{only, at-zone, net-capacity, Balanced, Limited, Judged};

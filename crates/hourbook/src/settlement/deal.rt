@@ -4,11 +4,13 @@ ghost use mathlib.Core.List.{map};
 ghost use Prim.Native.Nat.{_+_, _≤_};
 ghost use lib.IntN.{natAbs};
 ghost use lib.ListN.{length};
-ghost use Rattle.hourbook.specs.Shares.{total};
-ghost use Rattle.hourbook.specs.Writes.{written};
-ghost use Rattle.hourbook.specs.Deals.{leg-deal, line-deal, dealt};
+ghost use Rattle.sharing.specs.Shares.{total};
+ghost use Rattle.sharing.specs.Writes.{written};
+ghost use Rattle.sharing.specs.Levels.{dealt};
+ghost use Rattle.hourbook.specs.Deals.{leg-deal, line-deal};
 use crate::entry::credit::Credit;
 use crate::entry::credit::CreditKeeping;
+use crate::entry::credit::Direction;
 use crate::entry::credit::Origin;
 use crate::entry::row::Row;
 use crate::hourfile::owned_leg::OwnedLeg;
@@ -17,9 +19,9 @@ use crate::hourfile::owned_leg::OwnedLegWeighted;
 use crate::hourfile::owned_line::OwnedLine;
 use crate::hourfile::owner::OwnerRowReceiving;
 use crate::hourfile::owner::OwnerRowWeighted;
-use crate::sharing::Plain;
-use crate::sharing::PlainKeeping;
-use crate::sharing::share_at;
+use sharing::Plain;
+use sharing::PlainKeeping;
+use sharing::share;
 
 // A leg's amount, credited to its owners by key. Answers the place after the last credit.
 fn deal_leg(
@@ -39,8 +41,10 @@ fn deal_leg(
         origin,
         line,
         leg: leg.number,
+        direction: Direction::Received,
     };
-    share_at(amount, false, leg.owners.as_slice(), &credit, out, at);
+    // within the limits, so never refused
+    let _ = share(amount, leg.owners.as_slice(), &credit, out, at);
     at + leg.owners.len()
 }
 
@@ -52,7 +56,8 @@ fn deal_line(amount: u64, origin: Origin, line: &OwnedLine, out: &mut [Row], at:
     ensures place { λ r. ⌜ r ≡ at + length (line-deal origin amount (now (line .entry))) ⌝ }
 {
     let mut parts = [0i64; 64];
-    share_at(amount, false, line.legs.as_slice(), &Plain, &mut parts, 0);
+    // within the limits, so never refused
+    let _ = share(amount, line.legs.as_slice(), &Plain, &mut parts, 0);
     let mut place = at;
     for i in 0..line.legs.len() {
         place = deal_leg(

@@ -1,7 +1,7 @@
 //! A line as a row to share over.
 ghost use mathlib.Core.Path.{_≡_};
-use crate::sharing::Receiving;
-use crate::sharing::Weighted;
+use sharing::Receiving;
+use sharing::Weighted;
 
 // The line's number, from 1, and its weight.
 #[derive(Clone, Copy)]

@@ -1,18 +1,18 @@
 //! Settling: judged whole before anything is written.
 ghost use mathlib.Core.Path.{_≡_};
-ghost use mathlib.Core.Bool.{false};
 ghost use mathlib.Core.List.{map, _++_};
 ghost use Prim.Native.Nat.{_+_, _*_, _≤_, _<_};
-ghost use lib.IntN.{natAbs};
+ghost use lib.IntN.{natAbs, pos};
 ghost use lib.ListN.{length};
 ghost use Rattle.std.specs.Of.Vec.{vec-items, vec-len};
 ghost use Rattle.std.specs.Vec.{made};
-ghost use Rattle.hourbook.specs.Shares.{total, shares};
-ghost use Rattle.hourbook.specs.Writes.{written, mark};
+ghost use Rattle.sharing.specs.Shares.{total, shares};
+ghost use Rattle.sharing.specs.Writes.{written};
 ghost use Rattle.hourbook.specs.Worths.{weights};
 ghost use Rattle.hourbook.specs.Settled.{judged, Accepted, credit, work-of, paid, credits-of, needed};
 use crate::entry::credit::Credit;
 use crate::entry::credit::CreditKeeping;
+use crate::entry::credit::Direction;
 use crate::entry::credit::Origin;
 use crate::entry::row::Row;
 use crate::hourfile::owner::OwnerReceiving;
@@ -29,12 +29,11 @@ use crate::settlement::line_row::LineRowWeighted;
 use crate::settlement::weights::line_count;
 use crate::settlement::weights::weigh_all;
 use crate::settlement::weights::write_weights;
-use crate::sharing::HEAVIEST;
-use crate::sharing::Plain;
-use crate::sharing::PlainKeeping;
-use crate::sharing::share_at;
-
-const LARGEST: u64 = 2_000_000_000;
+use sharing::LARGEST_AMOUNT;
+use sharing::LARGEST_WEIGHT_SUM;
+use sharing::Plain;
+use sharing::PlainKeeping;
+use sharing::share;
 
 // The income of a region that can be settled with this table and so many places of work memory.
 pub(crate) fn judge<R: Region>(
@@ -54,10 +53,10 @@ pub(crate) fn judge<R: Region>(
         return Err(SettlementFault::Work);
     }
     let sum = income(region);
-    if sum.unsigned_abs() > LARGEST {
+    if sum.unsigned_abs() > LARGEST_AMOUNT {
         return Err(SettlementFault::Limit);
     }
-    if weigh_all(region) > HEAVIEST {
+    if weigh_all(region) > LARGEST_WEIGHT_SUM {
         return Err(SettlementFault::Limit);
     }
     Ok(sum)
@@ -88,7 +87,7 @@ fn fill_work<R: Region>(region: &R, amount: u64, work: &mut [i64])
     requires some { ⌜ 0 < length (meaning (now region) .lines) ⌝ }
     requires light { ⌜ total (weights (meaning (now region))) ≤ 4000000000 ⌝ }
     requires room { ⌜ 2 * length (meaning (now region) .lines) ≤ length (now work) ⌝ }
-    ensures { λ _. ⌜ now (work .exit) ≡ written (now (work .entry)) 0 (map (mark false) (weights (meaning (now (region .entry))) ++ shares amount (weights (meaning (now (region .entry)))))) ⌝ }
+    ensures { λ _. ⌜ now (work .exit) ≡ written (now (work .entry)) 0 (map pos (weights (meaning (now (region .entry))) ++ shares amount (weights (meaning (now (region .entry)))))) ⌝ }
 {
     let lines = line_count(region);
     let mut rows = [LineRow {
@@ -96,7 +95,8 @@ fn fill_work<R: Region>(region: &R, amount: u64, work: &mut [i64])
         weight: 0,
     }; 64];
     write_weights(region, &mut rows, work);
-    share_at(amount, false, &rows[..lines], &Plain, work, lines);
+    // within the limits, so never refused
+    let _ = share(amount, &rows[..lines], &Plain, work, lines);
 }
 
 // Credits the owners: an income by the lines' shares, a loss in equal parts.
@@ -112,10 +112,11 @@ fn pay(sum: i64, parts: &[i64], origin: Origin, table: &Ownership, out: &mut [Ro
             origin,
             line: 0,
             leg: 0,
+            direction: Direction::Borne,
         };
-        share_at(
+        // within the limits, so never refused
+        let _ = share(
             sum.unsigned_abs(),
-            true,
             table.owners.as_slice(),
             &credit,
             out,

@@ -1,11 +1,11 @@
 //! The weights of a region's lines.
 ghost use mathlib.Core.Path.{_≡_};
-ghost use mathlib.Core.Bool.{false};
 ghost use mathlib.Core.List.{map};
 ghost use Prim.Native.Nat.{_≤_, _<_};
+ghost use lib.IntN.{pos};
 ghost use lib.ListN.{length, getD};
-ghost use Rattle.hourbook.specs.Shares.{total};
-ghost use Rattle.hourbook.specs.Writes.{written, mark};
+ghost use Rattle.sharing.specs.Shares.{total};
+ghost use Rattle.sharing.specs.Writes.{written};
 ghost use Rattle.hourbook.specs.Meaning.{LineBounded};
 ghost use Rattle.hourbook.specs.Worths.{weight, weights};
 ghost use Rattle.hourbook.specs.LineRows.{line-rows-from};
@@ -58,7 +58,7 @@ pub(crate) fn write_weights<R: Region>(region: &R, rows: &mut [LineRow], work: &
     requires rows { ⌜ length (meaning (now region) .lines) ≤ length (now rows) ⌝ }
     requires work { ⌜ length (meaning (now region) .lines) ≤ length (now work) ⌝ }
     ensures rows { λ _. ⌜ now (rows .exit) ≡ written (now (rows .entry)) 0 (line-rows-from 1 (weights (meaning (now (region .entry))))) ⌝ }
-    ensures work { λ _. ⌜ now (work .exit) ≡ written (now (work .entry)) 0 (map (mark false) (weights (meaning (now (region .entry))))) ⌝ }
+    ensures work { λ _. ⌜ now (work .exit) ≡ written (now (work .entry)) 0 (map pos (weights (meaning (now (region .entry))))) ⌝ }
 {
     for k in 0..line_count(region) {
         let weight = weight_at(region, k);

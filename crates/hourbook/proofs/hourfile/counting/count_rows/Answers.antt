@@ -1,6 +1,6 @@
 use mathlib.Core.Path.{_≡_}
 use native.Mathlib.Omega.{arith}
-use Rattle.hourbook.proofs.Totals.{total-next, total-end}
+use Rattle.sharing.proofs.Totals.{total-next, total-end}
 use Rattle.hourbook.specs.OwnerRows.{line-rows}
 use Rattle.hourbook.proofs.hourfile.counting.count_rows.Needs as need
 

@@ -2,7 +2,7 @@ use Prim.Native.Nat.{_≤_, _*_, _+_}
 use mathlib.Core.Path.{_≡_}
 use mathlib.Core.List.{map}
 use lib.ListN.{drop}
-use Rattle.hourbook.specs.Shares.{total}
+use Rattle.sharing.specs.Shares.{total}
 use Rattle.hourbook.specs.OwnerRows.{line-rows, rows-of}
 use Rattle.hourbook.proofs.hourfile.counting.count_rows.Given as given
 

@@ -1,7 +1,7 @@
 use mathlib.Core.Path.{_≡_}
 use native.Mathlib.Omega.{arith}
 use Rattle.std.specs.Of.Vec.{vec-items}
-use Rattle.hourbook.proofs.Totals.{total-next, total-end}
+use Rattle.sharing.proofs.Totals.{total-next, total-end}
 use Rattle.hourbook.specs.OwnerRows.{leg-rows}
 use Rattle.hourbook.proofs.hourfile.counting.line_count.Needs as need
 

@@ -3,7 +3,7 @@ use mathlib.Core.Path.{_≡_}
 use mathlib.Core.List.{map}
 use lib.ListN.{drop}
 use Rattle.std.specs.Of.Vec.{vec-items}
-use Rattle.hourbook.specs.Shares.{total}
+use Rattle.sharing.specs.Shares.{total}
 use Rattle.hourbook.specs.OwnerRows.{leg-rows, line-rows}
 use Rattle.hourbook.proofs.hourfile.counting.line_count.Given as given
 

@@ -3,7 +3,7 @@ use mathlib.Core.Path.{_≡_}
 use mathlib.Core.List.{map}
 use lib.IntN.{natAbs}
 use lib.ListN.{drop}
-use Rattle.hourbook.specs.Shares.{total}
+use Rattle.sharing.specs.Shares.{total}
 use Rattle.hourbook.specs.Tables.{tenths-of}
 use Rattle.hourbook.proofs.region.balance.position_size.Given as given
 

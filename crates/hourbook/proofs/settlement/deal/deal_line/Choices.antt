@@ -1,5 +1,5 @@
 use Rattle.std.specs.Of.Vec.{vec-items}
-use Rattle.hourbook.specs.Shares.{shares}
+use Rattle.sharing.specs.Shares.{shares}
 use Rattle.hourbook.specs.Legs.{contributions}
 use Rattle.hourbook.specs.Deals.{leg-deal}
 use Rattle.hourbook.proofs.Dealing.{Dealing}

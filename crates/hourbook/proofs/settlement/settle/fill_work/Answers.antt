@@ -1,18 +1,17 @@
-use mathlib.Core.Path.{_≡_, refl, sym, ap, _∙_}
-use mathlib.Core.Bool.{false}
-use mathlib.Core.List.{List, map, _++_}
-use Prim.Native.Nat.{ℕ, _+_, _≤_}
+use mathlib.Core.Path.{_≡_, ap, _∙_}
+use mathlib.Core.List.{List, map}
+use Prim.Native.Nat.{ℕ, _≤_}
 use native.Mathlib.Omega.{arith}
-use lib.IntN.{ℤ}
+use lib.IntN.{pos}
 use lib.ListN.{length, take}
-use Rattle.std.proofs.shelf.Lists.{map-append, length-map}
+use Rattle.std.proofs.shelf.Lists.{length-map}
 use Rattle.hourbook.specs.declared.settlement.line_row.LineRow.{LineRow}
-use Rattle.hourbook.specs.Shares.{total, shares}
-use Rattle.hourbook.specs.Writes.{written, mark, cells}
+use Rattle.sharing.specs.Shares.{total, shares}
+use Rattle.sharing.specs.Writes.{written, cells}
 use Rattle.hourbook.specs.Worths.{weights, weight}
 use Rattle.hourbook.specs.LineRows.{line-rows-from}
-use Rattle.hourbook.proofs.Turn.{cells-plain}
-use Rattle.hourbook.proofs.Dealing.{length-shares}
+use Rattle.sharing.proofs.Cells.{cells-plain, accepted-memory}
+use Rattle.sharing.proofs.Lawful.{length-shares}
 use Rattle.hourbook.proofs.LineRowed.{length-rows, rows-weigh}
 use Rattle.hourbook.proofs.Parts.{front, both}
 use Rattle.hourbook.proofs.settlement.settle.fill_work.Given as given
@@ -27,15 +26,6 @@ rows-are g c =
     let r = length-rows 1 (weights m) in
     ap (take (c .line-count-lines .result)) (c .write-weights .ensures .rows) ∙ front _ (line-rows-from 1 (weights m)) (c .line-count-lines .result) (omega arith)
 
-pub share-at-requires : need.share-at-requires
-share-at-requires g c κs =
-    let m = g .R·Region .meaning (c .args .region .now) in
-    let n = length-map (m .lines) weight in
-    let r = length-rows 1 (weights m) in
-    let b = need.at·share-at-requires g c .After-write-weights in
-    let w = rows-weigh 1 (weights m) in
-    rw (rows-are g b) (record { small = c .pre .small; light = rw w (c .pre .light); few = omega arith; some = omega arith; room = omega arith })
-
 pub returns : need.returns
 returns g c =
     let m = g .R·Region .meaning (c .args .region .now) in
@@ -46,10 +36,13 @@ returns g c =
     let front : List LineRow = take at (c .write-weights .last .rows) in
     let weigh : LineRow → ℕ = λ r. r .weight in
     let rows : map weigh front ≡ ws = ap (map weigh) (rows-are g b) ∙ rows-weigh 1 ws in
-    let plain : cells (λ _ a. a) false front (shares (c .args .amount) (map weigh front)) ≡ map (mark false) (shares (c .args .amount) ws) =
-    cells-plain false front _ (omega (arith, length-shares (c .args .amount) (map weigh front), length-map front weigh))
-    ∙ ap (λ l. map (mark false) (shares (c .args .amount) l)) rows in
-    c .share-at .ensures
+    let plain : cells (λ _ s. pos s) front (shares (c .args .amount) (map weigh front)) ≡ map pos (shares (c .args .amount) ws) =
+    cells-plain front _ (omega (arith, length-shares (c .args .amount) (map weigh front), length-map front weigh))
+    ∙ ap (λ l. map pos (shares (c .args .amount) l)) rows in
+    let r = length-rows 1 ws in
+    let weigh-light : total (map weigh front) ≤ 4000000000 = rw rows (c .pre .light) in
+    let long : length front ≡ at = ap length (rows-are g b) ∙ omega arith in
+    accepted-memory weigh (λ _ s. pos s) (c .args .amount) front (c .write-weights .last .work) _ at (c .share .result) (c .share .ensures .answer) (c .share .ensures .memory) (c .pre .small) weigh-light (omega arith) (omega arith)
     ∙ (ap (written (c .write-weights .last .work) at) plain
-    ∙ (ap (λ w. written w at (map (mark false) (shares (c .args .amount) ws))) (c .write-weights .ensures .work)
+    ∙ (ap (λ w. written w at (map pos (shares (c .args .amount) ws))) (c .write-weights .ensures .work)
     ∙ both (c .args .work .now) ws (shares (c .args .amount) ws) at (omega arith) (omega arith)))

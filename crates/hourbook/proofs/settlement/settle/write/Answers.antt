@@ -1,10 +1,9 @@
 use mathlib.Core.Path.{_≡_, refl, sym, ap, subst, _∙_}
-use mathlib.Core.Bool.{false}
 use mathlib.Core.List.{List, map, _++_}
 use Prim.Native.Nat.{ℕ, _-_, _*_, _≤_, _<_}
 use native.Mathlib.Omega.{arith}
 use borrow.Author.Needs.{needs}
-use lib.IntN.{ℤ, natAbs}
+use lib.IntN.{ℤ, natAbs, pos}
 use lib.ListN.{length, take, drop}
 use mir.Val.{SFits, toZ, ofZ}
 use mir.Syntax.{w64}
@@ -12,13 +11,12 @@ use Rattle.std.specs.Of.Vec.{vec-items, vec-len}
 use Rattle.std.specs.declared.result.Result.the-variants.{Ok}
 use Rattle.std.proofs.shelf.Lists.{length-map}
 use Rattle.std.proofs.shelf.Signed.{ints, toZ-ofZ}
-use Rattle.hourbook.specs.Shares.{total, shares}
-use Rattle.hourbook.specs.Writes.{written, mark}
-use Rattle.hourbook.proofs.Lawful.{adds-up}
-use Rattle.hourbook.proofs.Dealing.{length-shares}
+use Rattle.sharing.specs.Shares.{total, shares}
+use Rattle.sharing.specs.Writes.{written}
+use Rattle.sharing.proofs.Lawful.{adds, length-shares}
 use Rattle.hourbook.specs.Worths.{weights, weight, income-of}
 use Rattle.hourbook.specs.Settled.{credit, work-of, paid}
-use Rattle.hourbook.proofs.Parts.{second, abs-marks, credit-small}
+use Rattle.hourbook.proofs.Parts.{second, abs-all, credit-small}
 use Rattle.hourbook.proofs.settlement.settle.write.Given as given
 use Rattle.hourbook.proofs.settlement.settle.write.Needs as need
 use Rattle.hourbook.proofs.settlement.settle.write.Needs.{After-fill-work}
@@ -37,10 +35,10 @@ module _ (g : given.Over) (c : need.After-fill-work g) where
   work-is =
       let ws = weights (g .R·Region .meaning (c .args .region .now)) in
       let same : c .credit-of .result ≡ credit (income-of (g .R·Region .meaning (c .args .region .now))) = c .credit-of .ensures ∙ ap credit sum-is in
-      c .fill-work .ensures ∙ ap (λ t. written (c .args .work .now) 0 (map (mark false) (ws ++ shares t ws))) same
+      c .fill-work .ensures ∙ ap (λ t. written (c .args .work .now) 0 (map pos (ws ++ shares t ws))) same
 
   -- the second half of work memory holds the lines' shares
-  parts-are : take (2 * c .len-lines .result - c .len-lines .result) (drop (c .len-lines .result) (c .fill-work .last .work)) ≡ map (mark false) (shares (credit (income-of (g .R·Region .meaning (c .args .region .now)))) (weights (g .R·Region .meaning (c .args .region .now))))
+  parts-are : take (2 * c .len-lines .result - c .len-lines .result) (drop (c .len-lines .result) (c .fill-work .last .work)) ≡ map pos (shares (credit (income-of (g .R·Region .meaning (c .args .region .now)))) (weights (g .R·Region .meaning (c .args .region .now))))
   parts-are =
       let m = g .R·Region .meaning (c .args .region .now) in
       let ws = weights m in
@@ -72,13 +70,13 @@ pay-requires g c κs =
     let b = need.at·pay-requires g c .After-fill-work in
     let ss = shares t ws in
     let len = length-shares t ws in
-    let lem = length-map ss (mark false) in
+    let lem = length-map ss pos in
     let some : 0 < length ws = omega (arith, acc .lines, c .args .table .now .some, c .args .table .now .lines .ok .0) in
-    let all = adds-up t ws some in
+    let all = adds t ws some in
     let low : natAbs (income-of m) ≤ 2000000000 = subst (λ z. natAbs z ≤ 2000000000) (acc .is) (acc .small) in
     rw (parts-are g b) (record {
       small = rw (sum-is g b) low;
-      parts = rw (abs-marks ss) (omega (arith, credit-small (income-of m)));
+      parts = rw (abs-all ss) (omega (arith, credit-small (income-of m)));
       long = omega (arith, acc .lines, c .args .table .now .lines .ok .0);
       room = rw (fitted g b) (c .pre .room);
     })
@@ -91,7 +89,7 @@ returns g c =
     let owners = vec-items (c .args .table .now .owners) in
     let origin = c .args .origin in
     let t = credit (income-of m) in
-    let parts : map natAbs (take (2 * c .len-lines .result - c .len-lines .result) (drop (c .len-lines .result) (c .fill-work .last .work))) ≡ shares t (weights m) = ap (map natAbs) (parts-are g b) ∙ abs-marks (shares t (weights m)) in
+    let parts : map natAbs (take (2 * c .len-lines .result - c .len-lines .result) (drop (c .len-lines .result) (c .fill-work .last .work))) ≡ shares t (weights m) = ap (map natAbs) (parts-are g b) ∙ abs-all (shares t (weights m)) in
     record {
       work = work-is g b;
       out =

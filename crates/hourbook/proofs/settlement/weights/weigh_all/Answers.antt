@@ -3,7 +3,7 @@ use Prim.Native.Nat.{_<_, _+_}
 use native.Mathlib.Omega.{arith}
 use lib.ListN.{length, getD, drop}
 use Rattle.std.proofs.shelf.Lists.{at-drop-more, at-drop-all, length-map}
-use Rattle.hourbook.specs.Shares.{total}
+use Rattle.sharing.specs.Shares.{total}
 use Rattle.hourbook.specs.Worths.{weights, weight}
 use Rattle.hourbook.proofs.settlement.weights.weigh_all.Needs as need
 

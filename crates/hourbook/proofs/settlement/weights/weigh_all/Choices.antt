@@ -1,7 +1,7 @@
 use Prim.Native.Nat.{_≤_, _*_, _+_}
 use mathlib.Core.Path.{_≡_}
 use lib.ListN.{drop}
-use Rattle.hourbook.specs.Shares.{total}
+use Rattle.sharing.specs.Shares.{total}
 use Rattle.hourbook.specs.Worths.{weights}
 use Rattle.hourbook.proofs.settlement.weights.weigh_all.Given as given
 
