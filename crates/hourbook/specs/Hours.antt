@@ -17,7 +17,7 @@ use Rattle.hourbook.specs.Meaning.{Meaning}
 use Rattle.hourbook.specs.Settled.{credits-of, needed}
 use Rattle.hourbook.specs.StatementAnswers.{text}
 use Rattle.hourbook.specs.Worths.{income-of}
-use Rattle.hourbook.specs.Writes.{written}
+use Rattle.sharing.specs.Writes.{written}
 
 -- want of memory is no refusal
 abbrev pub failure-of : FileFault → Failure
