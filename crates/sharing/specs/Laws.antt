@@ -53,9 +53,6 @@ pub record Fair (t : ℕ) (ws : List ℕ) : Type 0 where
   pub alike : Alike-by-equal-weight t ws
   pub nothing : Nothing-by-weight-0 t ws
 
-abbrev pub Every-sharing-is-fair : Type 0
-Every-sharing-is-fair = (t : ℕ) (ws : List ℕ) → Fair t ws
-
 abbrev pub Some-row : List ℕ → Type 0
 Some-row ws = 0 < length ws
 

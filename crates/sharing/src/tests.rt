@@ -67,7 +67,7 @@ fn refusals() -> Result<(), Fail> {
     check_eq(out, [9, 9])
 }
 
-// An hour of a region with eight lines.
+// A published hour of a region with eight lines: of the first five only the last and the sum were published.
 #[test]
 fn region_hour() -> Result<(), Fail> {
     let mut out = [0i64; 8];
@@ -82,18 +82,13 @@ fn region_hour() -> Result<(), Fail> {
         row(162_627),
     ];
     check_eq(refusal(2_719_042, &rows, &mut out, 0), 0)?;
+    let mut first_five = 0i64;
+    for share in out.iter().take(5) {
+        first_five = first_five.saturating_add(*share);
+    }
+    check_eq(first_five, 2_514_549)?;
     check_eq(
-        out,
-        [
-            145_776,
-            2_205_915,
-            3_296,
-            4_788,
-            154_774,
-            48_978,
-            0,
-            155_515,
-        ],
-    )?;
-    check_eq(145_776 + 2_205_915 + 3_296 + 4_788 + 154_774, 2_514_549).note("the first five")
+        [out[4], out[5], out[6], out[7]],
+        [154_774, 48_978, 0, 155_515],
+    )
 }
