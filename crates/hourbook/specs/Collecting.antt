@@ -1,12 +1,11 @@
 -- Records read from the front of the bytes, and sorted.
 use mathlib.Core.Path.{_≡_}
-use mathlib.Core.List.{List, _++_}
+use mathlib.Core.List.{List, [], _++_}
 use Prim.Native.Nat.{ℕ}
 use Rattle.std.specs.Iters.{folded}
 use Rattle.std.specs.Joined.{joined}
 use Rattle.hourbook.specs.declared.hourfile.«record».Record.{Record}
 use Rattle.hourbook.specs.Encoding.{encoded}
-use Rattle.hourbook.specs.Format.{Whole}
 use Rattle.hourbook.specs.SortedRecords.{Sorted, plus, unsorted}
 
 -- the bytes are the encodings of some records, one after another, and then rest; s is what these records add to the start
@@ -15,8 +14,6 @@ pub record Collects (bytes : List ℕ) (start s : Sorted) (rest : List ℕ) : Ty
   pub reads : joined encoded records ++ rest ≡ bytes
   pub says : s ≡ folded plus start records
 
--- and no further record follows them
-pub record Collected (bytes : List ℕ) (lines : ℕ) (s : Sorted) : Type 0 where
-  pub rest : List ℕ
-  pub collects : Collects bytes (unsorted lines) s rest
-  pub ends : Whole rest → ⊥
+-- the bytes are the encodings of some records, and nothing else; s is what these records say, in a file of so many lines
+abbrev pub Collected : List ℕ → ℕ → Sorted → Type 0
+Collected bytes lines s = Collects bytes (unsorted lines) s []

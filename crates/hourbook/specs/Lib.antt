@@ -43,3 +43,4 @@ pub mod OwnershipRead
 pub mod TablesRead
 pub mod SortedRecords
 pub mod Collecting
+pub mod Heading

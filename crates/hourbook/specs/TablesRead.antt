@@ -6,6 +6,7 @@ use Rattle.std.specs.Of.Vec.{vec-items}
 use Rattle.hourbook.specs.declared.hourfile.census.Census.{Census}
 use Rattle.hourbook.specs.declared.hourfile.hour_file.HourFile.{HourFile}
 use Rattle.hourbook.specs.Collecting.{Collected}
+use Rattle.hourbook.specs.Heading.{Heads}
 use Rattle.hourbook.specs.Naming.{census-lines}
 use Rattle.hourbook.specs.OwnershipRead.{line-said, lines-told}
 use Rattle.hourbook.specs.SortedRecords.{Sorted, border-said}
@@ -25,6 +26,7 @@ pub record Tabled (c : Census) (s : Sorted) (f : HourFile) : Type 0 where
 -- the file says what the records say whose encodings the bytes are
 pub record Describes (bytes : List ℕ) (f : HourFile) : Type 0 where
   pub census : Census
+  pub heads : Heads bytes census
   pub sorted : Sorted
   pub collected : Collected bytes (census-lines census) sorted
   pub tabled : Tabled census sorted f

@@ -66,6 +66,9 @@ impl Gathered {
             place += 1;
             gathered.take(record, place)?;
         }
+        if !records.is_spent() {
+            return Err(FileFault::Unread { place: place + 1 });
+        }
         Ok(gathered)
     }
 

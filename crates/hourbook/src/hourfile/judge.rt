@@ -6,7 +6,10 @@ ghost use mathlib.Core.Path.{_≡_};
 ghost use Rattle.std.specs.Results.{Cases};
 ghost use Rattle.std.specs.Vec.{refused};
 ghost use Rattle.std.specs.declared.option.Option.the-variants.{Some};
+ghost use Rattle.hourbook.specs.Encoding.{Begins};
 ghost use Rattle.hourbook.specs.FileFaults.{number-of, place-of};
+ghost use Rattle.hourbook.specs.Heading.{Heads};
+ghost use Rattle.hourbook.specs.declared.hourfile.«record».Record.the-variants.{Header as RecordHeader};
 ghost use Rattle.hourbook.specs.Lawful.{method-of};
 ghost use Rattle.hourbook.specs.Numbering.{Numbered, lines-of};
 ghost use Rattle.hourbook.specs.Tallies.{Furnished, WithinLimits};
@@ -28,7 +31,7 @@ const WHOLE: u16 = 10_000;
 
 // Allocates nothing, so that no fault is for want of memory.
 pub(crate) fn judge(bytes: &[u8]) -> Result<Census, FileFault>
-    ensures { λ r. ⌜ refused r (λ e. 0 < number-of e) ⌝ }
+    ensures { λ r. ⌜ Cases r (Heads (now (bytes .entry))) (λ e. 0 < number-of e) ⌝ }
 {
     whole(bytes)?;
     let header = order(bytes)?;
@@ -59,7 +62,7 @@ fn whole(bytes: &[u8]) -> Result<(), FileFault>
 
 // The records stand in order, so that the first is the header.
 fn order(bytes: &[u8]) -> Result<Header, FileFault>
-    ensures { λ r. ⌜ refused r (λ e. number-of e ≡ 2) ⌝ }
+    ensures { λ r. ⌜ Cases r (λ h. Begins (now (bytes .entry)) (RecordHeader h)) (λ e. number-of e ≡ 2) ⌝ }
 {
     let mut reader = Reader::new();
     for (i, record) in Records::of(bytes).enumerate() {

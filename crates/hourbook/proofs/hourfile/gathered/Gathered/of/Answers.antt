@@ -1,10 +1,12 @@
 use mathlib.Core.Path.{_≡_, refl, sym, ap, subst, _∙_}
 use native.Mathlib.Omega.{arith}
 use lib.ListN.{length}
-use Rattle.std.proofs.shelf.Lists.{length-append}
+use borrow.Author.Tests.{true-eqb}
+use Rattle.std.proofs.shelf.Lists.{length-append, nil-from-length}
 use Rattle.hourbook.specs.Collecting.{Collects}
 use Rattle.hourbook.specs.Encoding.{encoded}
-use Rattle.hourbook.specs.SortedRecords.{said}
+use Rattle.hourbook.specs.Naming.{census-lines}
+use Rattle.hourbook.specs.SortedRecords.{said, unsorted}
 use Rattle.hourbook.proofs.Collect.{encoded-some, collects-none, collects-next}
 use Rattle.hourbook.proofs.hourfile.gathered.Gathered.of.Needs as need
 
@@ -23,9 +25,8 @@ loop-record-again c =
 
 pub returns : need.returns
 returns c =
-    let none = c .in-rest .ensures tt .steps .0 in
-    record {
-      rest = c .loop-record .records .rest .now;
-      collects = subst (λ s. Collects (c .args .bytes .now) s (said (c .loop-record .gathered)) (c .loop-record .records .rest .now)) (c .in-Continue-gathered .ensures tt) (c .loop-record .inv .0);
-      ends = none;
-    }
+    let bytes = c .args .bytes .now in
+    let kept = c .in-rest .ensures tt .steps .1 in
+    let empty = nil-from-length _ (true-eqb _ 0 (c .if-not-is-spent .ensures tt)) in
+    let so = subst (λ s. Collects bytes s (said (c .loop-record .gathered)) (c .loop-record .records .rest .now)) (c .in-Continue-gathered .ensures tt) (c .loop-record .inv .0) in
+    subst (λ r. Collects bytes (unsorted (census-lines (c .args .census))) (said (c .loop-record .gathered)) r) (sym kept ∙ empty) so
