@@ -2,6 +2,7 @@
 use mathlib.Core.Path.{_≡_}
 use mathlib.Core.List.{List, map}
 use Prim.Native.Nat.{ℕ}
+use lib.ListN.{length}
 use Rattle.std.specs.Of.Vec.{vec-items}
 use Rattle.hourbook.specs.declared.hourfile.census.Census.{Census}
 use Rattle.hourbook.specs.declared.hourfile.hour_file.HourFile.{HourFile}
@@ -16,6 +17,8 @@ use Rattle.hourbook.specs.Tables.{cents-of, tenths-of}
 pub record Tabled (c : Census) (s : Sorted) (f : HourFile) : Type 0 where
   pub hour : f .hour ≡ c .hour
   pub method : f .network .method ≡ c .method
+  pub zone-count : length (vec-items (f .network .positions)) ≡ c .zones
+  pub border-count : length (vec-items (f .network .borders)) ≡ c .borders
   pub positions : tenths-of (vec-items (f .network .positions)) ≡ s .positions
   pub borders : map border-said (vec-items (f .network .borders)) ≡ s .borders
   pub prices : cents-of (vec-items (f .prices .list)) ≡ s .prices

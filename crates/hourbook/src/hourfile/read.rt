@@ -42,6 +42,11 @@ pub(crate) fn read(heap: Global, bytes: &[u8]) -> Result<HourFile, FileFault>
 fn tables_of(heap: Global, census: Census, gathered: Gathered) -> Result<HourFile, FileFault>
     ensures { λ r. ⌜ made r (Tabled census (said gathered)) ⌝ }
 {
+    if gathered.positions.len() != usize::from(census.zones)
+        || gathered.borders.len() != usize::from(census.borders)
+    {
+        return Err(FileFault::Count { place: 0 });
+    }
     let legs = gathered.legs.as_slice();
     let lines = owned_lines(heap, census.lines(), legs, gathered.owners.as_slice())?;
     let Some(ownership) = ownership_of(heap, census.region, lines)? else {
