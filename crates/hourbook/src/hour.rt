@@ -4,7 +4,7 @@ ghost use mathlib.Core.Path.{_≡_};
 ghost use Rattle.std.specs.Joined.{joined};
 ghost use Rattle.std.specs.Of.Vec.{vec-items};
 ghost use Rattle.std.specs.Vec.{made};
-ghost use Rattle.hourbook.specs.Hours.{Posted, failure-of, page-of};
+ghost use Rattle.hourbook.specs.Hours.{DescribedAndStated, Posted, Stated, failure-of, page-of};
 ghost use Rattle.hourbook.specs.declared.hour.Failure.the-variants.{Refused, Memory};
 use crate::book::RestingBook;
 use crate::book::fault::BookFault;
@@ -69,15 +69,26 @@ pub(crate) impl From<AllocError> for Failure as FailureFromAlloc {
     }
 }
 
-// The statements of the file's owners in rising number, its hour posted in an empty book.
-pub(crate) fn statements(heap: Global, bytes: &[u8]) -> Result<Vec<u8>, Failure> {
+// The statements of the owners of the file that the bytes are, in rising number.
+pub(crate) fn statements(heap: Global, bytes: &[u8]) -> Result<Vec<u8>, Failure>
+    ensures { λ r. ⌜ made r (λ t. DescribedAndStated (now (bytes .entry)) (vec-items t)) ⌝ }
+{
+    let file = read(heap, bytes)?;
+    let text = stated(heap, file)?;
+    Ok(text)
+}
+
+// The statements of a file's owners in rising number, its hour posted in an empty book.
+fn stated(heap: Global, file: HourFile) -> Result<Vec<u8>, Failure>
+    ensures { λ r. ⌜ made r (λ t. Stated file (vec-items t)) ⌝ }
+{
     let HourFile {
         hour,
         network,
         prices,
         losses,
         ownership,
-    } = read(heap, bytes)?;
+    } = file;
     let Some(below) = Coordinated::of(&network, &prices) else {
         return Err(Failure::Unbuilt);
     };
@@ -85,7 +96,8 @@ pub(crate) fn statements(heap: Global, bytes: &[u8]) -> Result<Vec<u8>, Failure>
     let mut memory = entry_memory(heap)?;
     let mut work = vec![in heap; 0i64; WORK]?;
     let book = posted(&region, &ownership, hour, &mut memory, &mut work)?;
-    pages(heap, &book, memory.as_slice(), ownership.owners.as_slice())
+    let text = pages(heap, &book, memory.as_slice(), ownership.owners.as_slice())?;
+    Ok(text)
 }
 
 // Places for the entries of one hour file.
