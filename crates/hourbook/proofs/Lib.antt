@@ -14,3 +14,4 @@ pub mod Stands
 pub mod BitLaws
 pub mod Kept
 pub mod Collect
+pub mod Passing

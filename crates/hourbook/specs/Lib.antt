@@ -44,3 +44,4 @@ pub mod TablesRead
 pub mod SortedRecords
 pub mod Collecting
 pub mod Heading
+pub mod Passes

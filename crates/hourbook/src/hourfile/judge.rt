@@ -12,6 +12,7 @@ ghost use Rattle.hourbook.specs.Heading.{Heads};
 ghost use Rattle.hourbook.specs.declared.hourfile.«record».Record.the-variants.{Header as RecordHeader};
 ghost use Rattle.hourbook.specs.Lawful.{method-of};
 ghost use Rattle.hourbook.specs.Numbering.{Numbered, lines-of};
+ghost use Rattle.hourbook.specs.Passes.{AllRead, Unreads};
 ghost use Rattle.hourbook.specs.Tallies.{Furnished, WithinLimits};
 use crate::hourfile::census::Census;
 use crate::hourfile::fault::FileFault;
@@ -46,7 +47,8 @@ pub(crate) fn judge(bytes: &[u8]) -> Result<Census, FileFault>
 
 // Every kind is known, and no body is cut short.
 fn whole(bytes: &[u8]) -> Result<(), FileFault>
-    ensures { λ r. ⌜ refused r (λ e. number-of e ≡ 1) ⌝ }
+    ensures rule { λ r. ⌜ Cases r (λ _. AllRead (now (bytes .entry))) (Unreads (now (bytes .entry))) ⌝ }
+    ensures number { λ r. ⌜ refused r (λ e. number-of e ≡ 1) ⌝ }
 {
     let mut records = Records::of(bytes);
     let mut read = 0;
