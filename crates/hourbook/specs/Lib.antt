@@ -45,3 +45,4 @@ pub mod SortedRecords
 pub mod Collecting
 pub mod Heading
 pub mod Passes
+pub mod Counting

@@ -12,6 +12,7 @@ ghost use Rattle.hourbook.specs.Heading.{Heads};
 ghost use Rattle.hourbook.specs.declared.hourfile.«record».Record.the-variants.{Header as RecordHeader};
 ghost use Rattle.hourbook.specs.Lawful.{method-of};
 ghost use Rattle.hourbook.specs.Numbering.{Numbered, lines-of};
+ghost use Rattle.hourbook.specs.Counting.{Counted, Miscounts};
 ghost use Rattle.hourbook.specs.Passes.{AllRead, Unreads};
 ghost use Rattle.hourbook.specs.Tallies.{Furnished, WithinLimits};
 use crate::hourfile::census::Census;
@@ -80,12 +81,16 @@ fn order(bytes: &[u8]) -> Result<Header, FileFault>
 
 // No kind comes too often, and none is missing.
 fn counts(bytes: &[u8], method: Option<Method>) -> Result<Tally, FileFault>
-    ensures { λ r. ⌜ Cases r (λ t. WithinLimits t × Furnished t method) (λ e. number-of e ≡ 3) ⌝ }
+    ensures rule { λ r. ⌜ Cases r (Counted (now (bytes .entry)) method) (Miscounts (now (bytes .entry)) method) ⌝ }
+    ensures limits { λ r. ⌜ Cases r (λ t. WithinLimits t × Furnished t method) (λ e. number-of e ≡ 3) ⌝ }
 {
     let mut tally = Tally::new();
-    for (i, record) in Records::of(bytes).enumerate() {
+    let mut records = Records::of(bytes);
+    let mut place = 0;
+    while let Some(record) = records.next() {
+        place += 1;
         if !tally.add(record.kind()) {
-            return Err(FileFault::Count { place: i + 1 });
+            return Err(FileFault::Count { place });
         }
     }
     if !tally.suffices(method) {

@@ -3,14 +3,14 @@ use native.Mathlib.Omega.{arith}
 use borrow.Author.Tests.{true-eqb}
 use Rattle.std.proofs.shelf.Lists.{nil-from-length}
 use Rattle.hourbook.specs.Passes.{Reads}
-use Rattle.hourbook.proofs.Passing.{passing-start, passing-next, passing-unread}
+use Rattle.hourbook.proofs.Passing.{passing-start, passing-next}
 use Rattle.hourbook.proofs.hourfile.judge.whole.Needs as need
 
 pub loop-read-holds : need.loop-read-holds
-loop-read-holds c = passing-start _ _ _ (c .of-records .ensures) tt
+loop-read-holds c = passing-start _ _ (c .of-records .ensures)
 
 pub loop-read-again : need.loop-read-again
-loop-read-again c = passing-next _ _ _ _ _ (c .in-Some .field-0) (c .loop-read .inv) (c .in-Some .ensures tt .steps) tt
+loop-read-again c = passing-next _ _ _ _ (c .in-Some .field-0) (c .loop-read .inv) (c .in-Some .ensures tt .steps)
 
 pub returns-then-is-spent : need.returns-then-is-spent
 returns-then-is-spent c =
