@@ -5,6 +5,7 @@ use Prim.Native.Nat.{ℕ, _+_, _≤_}
 use native.Mathlib.Omega.{arith}
 use lib.ListN.{length}
 use Rattle.std.specs.Joined.{joined}
+use Rattle.std.specs.shelf.Lists.{All}
 use Rattle.std.proofs.shelf.Lists.{joined-more, length-append}
 use Rattle.hourbook.specs.declared.hourfile.«record».Record.{Record}
 use Rattle.hourbook.specs.Encoding.{encoded}
@@ -17,6 +18,10 @@ reads-next bytes rs rest after x so split =
     ap (λ l. l ++ after) (sym (joined-more encoded [] rs x))
     ∙ (append-assoc (joined encoded rs) (encoded x) after
     ∙ (ap (λ l. joined encoded rs ++ l) (sym split) ∙ so))
+
+pub all-last : {X : Type 0} (P : X → Type 0) (xs : List X) (x : X) → All P (xs ++ (x ∷ [])) → P x
+all-last P [] x h = h .0
+all-last P (y ∷ ys) x h = all-last P ys x (h .1)
 
 -- so many records have come, and rest is left
 pub record Passing (bytes rest : List ℕ) (count : ℕ) : Type 0 where

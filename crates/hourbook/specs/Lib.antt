@@ -46,3 +46,4 @@ pub mod Collecting
 pub mod Heading
 pub mod Passes
 pub mod Counting
+pub mod Ranging

@@ -14,6 +14,7 @@ ghost use Rattle.hourbook.specs.Lawful.{method-of};
 ghost use Rattle.hourbook.specs.Numbering.{Numbered, lines-of};
 ghost use Rattle.hourbook.specs.Counting.{Counted, Miscounts};
 ghost use Rattle.hourbook.specs.Passes.{AllRead, Unreads};
+ghost use Rattle.hourbook.specs.Ranging.{OutOfRange, Ranged};
 ghost use Rattle.hourbook.specs.Tallies.{Furnished, WithinLimits};
 use crate::hourfile::census::Census;
 use crate::hourfile::fault::FileFault;
@@ -101,14 +102,18 @@ fn counts(bytes: &[u8], method: Option<Method>) -> Result<Tally, FileFault>
 
 // Every number lies in its range. The header, which has the method's number, is the first record.
 fn ranges(bytes: &[u8], header: Header) -> Result<Method, FileFault>
-    ensures { λ r. ⌜ Cases r (λ m. method-of (header .method) ≡ Some m) (λ e. number-of e ≡ 4) ⌝ }
+    ensures rule { λ r. ⌜ Cases r (Ranged (now (bytes .entry)) header) (OutOfRange (now (bytes .entry)) header) ⌝ }
+    ensures number { λ r. ⌜ Cases r (λ m. method-of (header .method) ≡ Some m) (λ e. number-of e ≡ 4) ⌝ }
 {
     let Some(method) = header.method() else {
         return Err(FileFault::Range { place: 1 });
     };
-    for (i, record) in Records::of(bytes).enumerate() {
+    let mut records = Records::of(bytes);
+    let mut place = 0;
+    while let Some(record) = records.next() {
+        place += 1;
         if !record.in_range(method) {
-            return Err(FileFault::Range { place: i + 1 });
+            return Err(FileFault::Range { place });
         }
     }
     Ok(method)
