@@ -15,3 +15,4 @@ pub mod BitLaws
 pub mod Kept
 pub mod Collect
 pub mod Passing
+pub mod Sequences

@@ -47,3 +47,4 @@ pub mod Heading
 pub mod Passes
 pub mod Counting
 pub mod Ranging
+pub mod Sequence

@@ -3,18 +3,21 @@
 //! Each rule is tried over the whole file before the next, and a fault tells of the first rule that is broken.
 ghost use Prim.Native.Nat.{_<_};
 ghost use mathlib.Core.Path.{_≡_};
+ghost use Rattle.std.specs.Options.{Cases as BySome};
 ghost use Rattle.std.specs.Results.{Cases};
 ghost use Rattle.std.specs.Vec.{refused};
 ghost use Rattle.std.specs.declared.option.Option.the-variants.{Some};
 ghost use Rattle.hourbook.specs.Encoding.{Begins};
 ghost use Rattle.hourbook.specs.FileFaults.{number-of, place-of};
 ghost use Rattle.hourbook.specs.Heading.{Heads};
+ghost use Rattle.hourbook.specs.declared.hourfile.«record».Header.{Header as Headed};
 ghost use Rattle.hourbook.specs.declared.hourfile.«record».Record.the-variants.{Header as RecordHeader};
 ghost use Rattle.hourbook.specs.Lawful.{method-of};
 ghost use Rattle.hourbook.specs.Numbering.{Numbered, lines-of};
 ghost use Rattle.hourbook.specs.Counting.{Counted, Miscounts};
 ghost use Rattle.hourbook.specs.Passes.{AllRead, Unreads};
 ghost use Rattle.hourbook.specs.Ranging.{OutOfRange, Ranged};
+ghost use Rattle.hourbook.specs.Sequence.{Disordered, WellOrdered};
 ghost use Rattle.hourbook.specs.Tallies.{Furnished, WithinLimits};
 use crate::hourfile::census::Census;
 use crate::hourfile::fault::FileFault;
@@ -66,18 +69,31 @@ fn whole(bytes: &[u8]) -> Result<(), FileFault>
 
 // The records stand in order, so that the first is the header.
 fn order(bytes: &[u8]) -> Result<Header, FileFault>
-    ensures { λ r. ⌜ Cases r (λ h. Begins (now (bytes .entry)) (RecordHeader h)) (λ e. number-of e ≡ 2) ⌝ }
+    ensures rule { λ r. ⌜ Cases r (WellOrdered (now (bytes .entry))) (Disordered (now (bytes .entry))) ⌝ }
+    ensures number { λ r. ⌜ Cases r (λ h. Begins (now (bytes .entry)) (RecordHeader h)) (λ e. number-of e ≡ 2) ⌝ }
 {
     let mut reader = Reader::new();
-    for (i, record) in Records::of(bytes).enumerate() {
+    let mut records = Records::of(bytes);
+    let mut place = 0;
+    while let Some(record) = records.next() {
+        place += 1;
         if !reader.step(record.kind()) {
-            return Err(FileFault::Order { place: i + 1 });
+            return Err(FileFault::Order { place });
         }
     }
-    match (reader.is_done(), first_record(bytes)) {
-        (true, Some(Record::Header(header))) => Ok(header),
-        _ => Err(FileFault::Order { place: 0 }),
+    if !reader.is_done() {
+        return Err(FileFault::Order { place: 0 });
     }
+    match leading_header(bytes) {
+        Some(header) => Ok(header),
+        None => Err(FileFault::Order { place: 0 }),
+    }
+}
+
+fn leading_header(bytes: &[u8]) -> Option<Header>
+    ensures { λ r. ⌜ BySome r ((h : Headed) → Begins (now (bytes .entry)) (RecordHeader h) → ⊥) (λ h. Begins (now (bytes .entry)) (RecordHeader h)) ⌝ }
+{
+    first_record(bytes)?.header()
 }
 
 // No kind comes too often, and none is missing.

@@ -5,7 +5,7 @@ ghost use lib.ListN.{length};
 ghost use Rattle.std.specs.Options.{Cases as BySome};
 ghost use Rattle.hourbook.specs.Encoding.{Begins, encoded};
 ghost use Rattle.hourbook.specs.Format.{Whole};
-ghost use Rattle.hourbook.specs.Kinds.{kind-of};
+ghost use Rattle.hourbook.specs.Kinds.{header-in, kind-of};
 ghost use Rattle.hourbook.specs.Lawful.{method-of};
 use crate::hourfile::method::Method;
 
@@ -105,6 +105,15 @@ impl Record {
             Record::Loss(_) => Kind::Loss,
             Record::Owner(_) => Kind::Owner,
             Record::End => Kind::End,
+        }
+    }
+
+    pub(crate) fn header(self) -> Option<Header>
+        ensures { λ r. ⌜ r ≡ header-in self ⌝ }
+    {
+        match self {
+            Record::Header(header) => Some(header),
+            _ => None,
         }
     }
 
