@@ -16,3 +16,4 @@ pub mod Kept
 pub mod Collect
 pub mod Passing
 pub mod Sequences
+pub mod NamingOn

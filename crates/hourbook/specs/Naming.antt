@@ -1,10 +1,12 @@
 -- What a record may name, after the records before it.
 use mathlib.Core.Bool.{Bool, true, false}
-use mathlib.Core.List.{[]}
+use mathlib.Core.List.{List, [], _∷_}
 use mathlib.Core.Path.{_≡_}
 use Prim.Native.Nat.{ℕ, _+_, _-_, _≤_, _<_}
 use lib.ListN.{getD, replicate, set}
 use Rattle.hourbook.specs.declared.hourfile.census.Census.{Census}
+use Rattle.hourbook.specs.declared.hourfile.fault.FileFault.{FileFault}
+use Rattle.hourbook.specs.declared.hourfile.fault.FileFault.the-variants.{Name}
 use Rattle.hourbook.specs.declared.hourfile.method.Method.the-variants.{FlowBased}
 use Rattle.hourbook.specs.declared.hourfile.names.Names.{Names}
 use Rattle.hourbook.specs.declared.hourfile.«record».BorderRecord.{BorderRecord}
@@ -14,6 +16,7 @@ use Rattle.hourbook.specs.declared.hourfile.«record».LossRecord.{LossRecord}
 use Rattle.hourbook.specs.declared.hourfile.«record».Record.{Record}
 use Rattle.hourbook.specs.declared.hourfile.«record».Record.the-variants.{Header, Zone, Border, Leg, Factor, Loss, Owner, End}
 use Rattle.hourbook.specs.Numbering.{Numbered, lines-of}
+use Rattle.hourbook.specs.Passes.{FirstOut, Passed}
 
 abbrev pub census-lines : Census → ℕ
 census-lines c = lines-of (c .method) (c .zones) (c .borders)
@@ -75,3 +78,16 @@ noted n (Factor x) = factor-noted n x
 noted n (Loss x) = loss-noted n x
 noted n (Owner x) = n
 noted n End = n
+
+-- each record names what is there, after the records before it
+abbrev pub AllNamed : Names → List Record → Type 0
+AllNamed n [] = Unit {0}
+AllNamed n (r ∷ rs) = Named n r × AllNamed (noted n r) rs
+
+-- rule 5 is kept by all records
+abbrev pub NamesKept : List ℕ → Census → Type 0
+NamesKept bytes c = Passed (AllNamed (none-named c)) bytes
+
+-- the fault tells the first record that breaks rule 5
+abbrev pub NamesBroken : List ℕ → Census → FileFault → Type 0
+NamesBroken bytes c e = (p : ℕ) × (e ≡ Name p) × FirstOut (AllNamed (none-named c)) bytes p

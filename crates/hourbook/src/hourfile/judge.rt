@@ -13,8 +13,9 @@ ghost use Rattle.hourbook.specs.Heading.{Heads};
 ghost use Rattle.hourbook.specs.declared.hourfile.«record».Header.{Header as Headed};
 ghost use Rattle.hourbook.specs.declared.hourfile.«record».Record.the-variants.{Header as RecordHeader};
 ghost use Rattle.hourbook.specs.Lawful.{method-of};
-ghost use Rattle.hourbook.specs.Numbering.{Numbered, lines-of};
 ghost use Rattle.hourbook.specs.Counting.{Counted, Miscounts};
+ghost use Rattle.hourbook.specs.Naming.{NamesBroken, NamesKept};
+ghost use Rattle.hourbook.specs.Numbering.{Numbered, lines-of};
 ghost use Rattle.hourbook.specs.Passes.{AllRead, Unreads};
 ghost use Rattle.hourbook.specs.Ranging.{OutOfRange, Ranged};
 ghost use Rattle.hourbook.specs.Sequence.{Disordered, WellOrdered};
@@ -137,12 +138,16 @@ fn ranges(bytes: &[u8], header: Header) -> Result<Method, FileFault>
 
 // Every zone, line and leg that is named is there.
 fn names(bytes: &[u8], census: Census) -> Result<(), FileFault>
-    ensures { λ r. ⌜ refused r (λ e. number-of e ≡ 5) ⌝ }
+    ensures rule { λ r. ⌜ Cases r (λ _. NamesKept (now (bytes .entry)) census) (NamesBroken (now (bytes .entry)) census) ⌝ }
+    ensures number { λ r. ⌜ refused r (λ e. number-of e ≡ 5) ⌝ }
 {
     let mut names = Names::of(census);
-    for (i, record) in Records::of(bytes).enumerate() {
+    let mut records = Records::of(bytes);
+    let mut place = 0;
+    while let Some(record) = records.next() {
+        place += 1;
         if !names.admits(&record) {
-            return Err(FileFault::Name { place: i + 1 });
+            return Err(FileFault::Name { place });
         }
     }
     Ok(())
