@@ -17,3 +17,4 @@ pub mod Collect
 pub mod Passing
 pub mod Sequences
 pub mod NamingOn
+pub mod Summing

@@ -57,3 +57,6 @@ module _ (bytes : List ℕ) where
 
   pub passing-end : (rest : List ℕ) (count : ℕ) (s : Passing bytes rest count) → (Whole rest → ⊥) → (P : List Record → Type 0) → P (s .records) → Passed P bytes
   passing-end rest count s none P keeps = record { records = s .records; rest = rest; reads = s .reads; ends = none; keeps = keeps }
+
+pub passed-weaker : (P Q : List Record → Type 0) (bytes : List ℕ) → ((rs : List Record) → P rs → Q rs) → Passed P bytes → Passed Q bytes
+passed-weaker P Q bytes f h = record { records = h .records; rest = h .rest; reads = h .reads; ends = h .ends; keeps = f (h .records) (h .keeps) }

@@ -4,6 +4,8 @@ use Rattle.std.specs.declared.option.Option.the-variants.{Some, None}
 use Rattle.hourbook.specs.declared.hourfile.«record».Header as header
 use Rattle.hourbook.specs.declared.hourfile.«record».Kind.{Kind}
 use Rattle.hourbook.specs.declared.hourfile.«record».Kind.the-variants as kind
+use Rattle.hourbook.specs.declared.hourfile.«record».LegRecord.{LegRecord}
+use Rattle.hourbook.specs.declared.hourfile.«record».OwnerRecord.{OwnerRecord}
 use Rattle.hourbook.specs.declared.hourfile.«record».Record.{Record}
 use Rattle.hourbook.specs.declared.hourfile.«record».Record.the-variants.{Header, Zone, Border, Leg, Factor, Loss, Owner, End}
 
@@ -26,3 +28,23 @@ header-in (Factor x) = None
 header-in (Loss x) = None
 header-in (Owner x) = None
 header-in End = None
+
+abbrev pub leg-in : Record → Option LegRecord
+leg-in (Header x) = None
+leg-in (Zone x) = None
+leg-in (Border x) = None
+leg-in (Leg x) = Some x
+leg-in (Factor x) = None
+leg-in (Loss x) = None
+leg-in (Owner x) = None
+leg-in End = None
+
+abbrev pub owner-in : Record → Option OwnerRecord
+owner-in (Header x) = None
+owner-in (Zone x) = None
+owner-in (Border x) = None
+owner-in (Leg x) = None
+owner-in (Factor x) = None
+owner-in (Loss x) = None
+owner-in (Owner x) = Some x
+owner-in End = None

@@ -48,3 +48,4 @@ pub mod Passes
 pub mod Counting
 pub mod Ranging
 pub mod Sequence
+pub mod Wholeness

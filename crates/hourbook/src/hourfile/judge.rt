@@ -14,12 +14,13 @@ ghost use Rattle.hourbook.specs.declared.hourfile.«record».Header.{Header as
 ghost use Rattle.hourbook.specs.declared.hourfile.«record».Record.the-variants.{Header as RecordHeader};
 ghost use Rattle.hourbook.specs.Lawful.{method-of};
 ghost use Rattle.hourbook.specs.Counting.{Counted, Miscounts};
-ghost use Rattle.hourbook.specs.Naming.{NamesBroken, NamesKept};
+ghost use Rattle.hourbook.specs.Naming.{NamesBroken, NamesKept, census-lines};
 ghost use Rattle.hourbook.specs.Numbering.{Numbered, lines-of};
 ghost use Rattle.hourbook.specs.Passes.{AllRead, Unreads};
 ghost use Rattle.hourbook.specs.Ranging.{OutOfRange, Ranged};
 ghost use Rattle.hourbook.specs.Sequence.{Disordered, WellOrdered};
 ghost use Rattle.hourbook.specs.Tallies.{Furnished, WithinLimits};
+ghost use Rattle.hourbook.specs.Wholeness.{AllContribute, AllOwned, NoneContributes, NotOwned, SumsOf, contribution-to, key-to};
 use crate::hourfile::census::Census;
 use crate::hourfile::fault::FileFault;
 use crate::hourfile::method::Method;
@@ -155,7 +156,8 @@ fn names(bytes: &[u8], census: Census) -> Result<(), FileFault>
 
 // Every line has a leg that contributes.
 fn contributions(bytes: &[u8], census: Census) -> Result<(), FileFault>
-    ensures { λ r. ⌜ refused r (λ e. (number-of e ≡ 6) × Numbered (lines-of (census .method) (census .zones) (census .borders)) (place-of e)) ⌝ }
+    ensures rule { λ r. ⌜ Cases r (λ _. AllContribute (now (bytes .entry)) (census-lines census)) (NoneContributes (now (bytes .entry)) (census-lines census)) ⌝ }
+    ensures number { λ r. ⌜ refused r (λ e. (number-of e ≡ 6) × Numbered (lines-of (census .method) (census .zones) (census .borders)) (place-of e)) ⌝ }
 {
     let sums = contribution_sums(bytes);
     for line in 1..=census.lines() {
@@ -168,10 +170,13 @@ fn contributions(bytes: &[u8], census: Census) -> Result<(), FileFault>
     Ok(())
 }
 
-fn contribution_sums(bytes: &[u8]) -> Sums {
+fn contribution_sums(bytes: &[u8]) -> Sums
+    ensures { λ r. ⌜ SumsOf contribution-to (now (bytes .entry)) (r .amounts) ⌝ }
+{
     let mut sums = Sums::new();
-    for record in Records::of(bytes) {
-        if let Record::Leg(leg) = record {
+    let mut records = Records::of(bytes);
+    while let Some(record) = records.next() {
+        if let Some(leg) = record.leg() {
             sums.add(leg.line, leg.contribution);
         }
     }
@@ -180,7 +185,8 @@ fn contribution_sums(bytes: &[u8]) -> Sums {
 
 // Every leg is owned whole.
 fn keys(bytes: &[u8], census: Census) -> Result<(), FileFault>
-    ensures { λ r. ⌜ refused r (λ e. (number-of e ≡ 7) × Numbered (census .legs) (place-of e)) ⌝ }
+    ensures rule { λ r. ⌜ Cases r (λ _. AllOwned (now (bytes .entry)) (census .legs)) (NotOwned (now (bytes .entry)) (census .legs)) ⌝ }
+    ensures number { λ r. ⌜ refused r (λ e. (number-of e ≡ 7) × Numbered (census .legs) (place-of e)) ⌝ }
 {
     let sums = key_sums(bytes);
     for leg in 1..=census.legs {
@@ -191,10 +197,13 @@ fn keys(bytes: &[u8], census: Census) -> Result<(), FileFault>
     Ok(())
 }
 
-fn key_sums(bytes: &[u8]) -> Sums {
+fn key_sums(bytes: &[u8]) -> Sums
+    ensures { λ r. ⌜ SumsOf key-to (now (bytes .entry)) (r .amounts) ⌝ }
+{
     let mut sums = Sums::new();
-    for record in Records::of(bytes) {
-        if let Record::Owner(owner) = record {
+    let mut records = Records::of(bytes);
+    while let Some(record) = records.next() {
+        if let Some(owner) = record.owner() {
             sums.add(owner.leg, owner.key);
         }
     }

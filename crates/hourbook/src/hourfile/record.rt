@@ -5,7 +5,7 @@ ghost use lib.ListN.{length};
 ghost use Rattle.std.specs.Options.{Cases as BySome};
 ghost use Rattle.hourbook.specs.Encoding.{Begins, encoded};
 ghost use Rattle.hourbook.specs.Format.{Whole};
-ghost use Rattle.hourbook.specs.Kinds.{header-in, kind-of};
+ghost use Rattle.hourbook.specs.Kinds.{header-in, kind-of, leg-in, owner-in};
 ghost use Rattle.hourbook.specs.Lawful.{method-of};
 use crate::hourfile::method::Method;
 
@@ -113,6 +113,24 @@ impl Record {
     {
         match self {
             Record::Header(header) => Some(header),
+            _ => None,
+        }
+    }
+
+    pub(crate) fn leg(self) -> Option<LegRecord>
+        ensures { λ r. ⌜ r ≡ leg-in self ⌝ }
+    {
+        match self {
+            Record::Leg(leg) => Some(leg),
+            _ => None,
+        }
+    }
+
+    pub(crate) fn owner(self) -> Option<OwnerRecord>
+        ensures { λ r. ⌜ r ≡ owner-in self ⌝ }
+    {
+        match self {
+            Record::Owner(owner) => Some(owner),
             _ => None,
         }
     }
