@@ -18,3 +18,4 @@ pub mod Passing
 pub mod Sequences
 pub mod NamingOn
 pub mod Summing
+pub mod Forming

@@ -49,3 +49,4 @@ pub mod Counting
 pub mod Ranging
 pub mod Sequence
 pub mod Wholeness
+pub mod LawfulFile

@@ -13,6 +13,7 @@ ghost use Rattle.hourbook.specs.Heading.{Heads};
 ghost use Rattle.hourbook.specs.declared.hourfile.«record».Header.{Header as Headed};
 ghost use Rattle.hourbook.specs.declared.hourfile.«record».Record.the-variants.{Header as RecordHeader};
 ghost use Rattle.hourbook.specs.Lawful.{method-of};
+ghost use Rattle.hourbook.specs.LawfulFile.{FirstBroken, LawfulFile};
 ghost use Rattle.hourbook.specs.Counting.{Counted, Miscounts};
 ghost use Rattle.hourbook.specs.Naming.{NamesBroken, NamesKept, census-lines};
 ghost use Rattle.hourbook.specs.Numbering.{Numbered, lines-of};
@@ -39,7 +40,8 @@ const WHOLE: u16 = 10_000;
 
 // Allocates nothing, so that no fault is for want of memory.
 pub(crate) fn judge(bytes: &[u8]) -> Result<Census, FileFault>
-    ensures { λ r. ⌜ Cases r (Heads (now (bytes .entry))) (λ e. 0 < number-of e) ⌝ }
+    ensures rules { λ r. ⌜ Cases r (LawfulFile (now (bytes .entry))) (FirstBroken (now (bytes .entry))) ⌝ }
+    ensures heads { λ r. ⌜ Cases r (Heads (now (bytes .entry))) (λ e. 0 < number-of e) ⌝ }
 {
     whole(bytes)?;
     let header = order(bytes)?;
