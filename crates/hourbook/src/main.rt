@@ -1,4 +1,6 @@
 //! hourbook: judges standard input as an hour file, and prints the statements of its owners or the refusal.
+#![tactic(auto)]
+
 mod book;
 mod entry;
 mod hour;

@@ -1,4 +1,6 @@
 //! Sharing an amount over rows by weight, so that no cent is lost.
+#![tactic(auto)]
+
 mod amount;
 mod counting;
 mod fault;
