@@ -28,8 +28,8 @@ fn judge<R: Weighted>(
     size: usize,
     at: usize,
 ) -> Result<Counting, SharingFault>
-    ensures answer { verdict result ≡ judged amount (length rows.now) (whole (map weighs rows.now)) size at }
-    ensures facts { IfOk result (λ c. Counts (map weighs rows.now) c × (at + length rows.now ≤ size) × (amount ≤ 2000000000)) }
+    ensures answer { verdict result ≡ judged amount (length rows.now) (whole (map R.weighs rows.now)) size at }
+    ensures facts { IfOk result (λ c. Counts (map R.weighs rows.now) c × (at + length rows.now ≤ size) × (amount ≤ 2000000000)) }
 {
     if lacks_room(size, at, rows.len()) {
         return Err(SharingFault::Room);

@@ -29,7 +29,7 @@ fn counting_of(sum: u64, rows: usize) -> Counting
 
 // How the rows count, unless the counted weights add to more than `LARGEST_WEIGHT_SUM`.
 pub(crate) fn count<R: Weighted>(rows: &[R]) -> Option<Counting>
-    ensures { MatchOption result (4000000000 < whole (map weighs rows.now)) (Counts (map weighs rows.now)) }
+    ensures { MatchOption result (4000000000 < whole (map R.weighs rows.now)) (Counts (map R.weighs rows.now)) }
 {
     let sum = weigh(rows)?;
     let counting = counting_of(sum, rows.len());
@@ -41,7 +41,7 @@ pub(crate) fn count<R: Weighted>(rows: &[R]) -> Option<Counting>
 
 // What a row counts with.
 pub(crate) fn counted_weight<R: Weighted>(row: &R, equal: bool) -> u64
-    ensures { result ≡ (if equal then 1 else weighs row.now) }
+    ensures { result ≡ (if equal then 1 else R.weighs row.now) }
 {
     if equal { 1 } else { row.weight() }
 }

@@ -34,7 +34,7 @@ fn added(sum: u64, weight: u64) -> Option<u64>
 
 // The sum of the weights, unless it is above `LARGEST_WEIGHT_SUM`.
 pub fn weigh<R: Weighted>(rows: &[R]) -> Option<u64>
-    ensures { MatchOption result (4000000000 < total (map weighs rows.now)) (λ n. (n ≡ total (map weighs rows.now)) × (n ≤ 4000000000)) }
+    ensures { MatchOption result (4000000000 < total (map R.weighs rows.now)) (λ n. (n ≡ total (map R.weighs rows.now)) × (n ≤ 4000000000)) }
 {
     let mut sum: u64 = 0;
     for row in rows {

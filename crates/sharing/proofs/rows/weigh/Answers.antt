@@ -2,10 +2,10 @@ use Rattle.std.proofs.Common.{arith}
 use Rattle.sharing.proofs.Totals.{total_next, total_end}
 use Rattle.sharing.proofs.rows.weigh.Goals as goal
 
-pub returns-in-err-sum : goal.returns-in-err-sum
-returns-in-err-sum g c =
+pub returns-in_err-sum : goal.returns-in_err-sum
+returns-in_err-sum g c =
     let next = total_next g.R.Weighted.weighs c.args.rows.now c.loop-row.row-index _ c.loop-row-test.true c.row-item.is in
-    rw c.from-residual.ensures (omega (arith, c.in-err-sum.ensures))
+    rw c.from_residual.ensures (omega (arith, c.in_err-sum.ensures))
 
 pub loop-row-preserved : goal.loop-row-preserved
 loop-row-preserved g c =
