@@ -1,5 +1,5 @@
 -- One bit more. Assumes nothing.
-use Rattle.std.proofs.Common.{◌≡◌, ℕ, ◌+◌, ◌-◌, ◌*◌, ◌/◌, ◌%◌, ◌^◌, ◌<◌, ◌≤◌, max, Bool, true, false, ◌||◌, eqb, ◌⊎◌, sym, refl, ap, ◌∙◌, inl, inr, arith}
+use Rattle.std.proofs.Common.{◌≡◌, ℕ, ◌+◌, ◌-◌, ◌*◌, ◌/◌, ◌%◌, ◌^◌, ◌<◌, ◌≤◌, max, ◌||◌, eqb, sym, ap, ◌∙◌, inl, inr, arith}
 use lib.Bits.{bit_or, or_step}
 use native.Mathlib.Nat.{div-eq_of_lt, div_self, mul-mod_left}
 use Rattle.std.proofs.lemmas.Nat.{or_shr, mod-mul-add, mod_below, pow_pos, pow-add, pow_below, shl-shr, one_shl}

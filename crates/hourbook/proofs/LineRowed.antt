@@ -1,5 +1,5 @@
 -- Lines as rows to share over. Assumes nothing.
-use Rattle.std.proofs.Common.{◌≡◌, ℕ, zero, suc, ◌+◌, ◌<◌, List, [], ◌∷◌, map, length, get_or, sym, refl, ap, ◌∙◌, arith}
+use Rattle.std.proofs.Common.{◌≡◌, ℕ, zero, suc, ◌+◌, ◌<◌, List, [], ◌∷◌, map, length, get_or, refl, ap, ◌∙◌, arith}
 use Rattle.hourbook.specs.declared.settlement.line_row.LineRow.{LineRow}
 use Rattle.hourbook.specs.LineRows.{line_rows_from}
 

@@ -1,5 +1,5 @@
 -- What stands in work memory. Assumes nothing.
-use Rattle.std.proofs.Common.{◌≡◌, ℕ, suc, ◌+◌, ◌-◌, ◌*◌, ◌<◌, ◌≤◌, List, [], ◌∷◌, ◌++◌, map, length, take, drop, ℤ, pos, negsuc, nat_abs, ◌≤ℤ◌, vec_items, sym, refl, ap, ◌∙◌, arith}
+use Rattle.std.proofs.Common.{◌≡◌, ℕ, ◌+◌, ◌-◌, ◌*◌, ◌≤◌, List, [], ◌∷◌, ◌++◌, map, length, take, drop, ℤ, pos, negsuc, nat_abs, ◌≤ℤ◌, vec_items, sym, refl, ap, ◌∙◌, arith}
 use Rattle.std.proofs.lemmas.Int.{ints}
 use Rattle.sharing.proofs.Writing.{written-append}
 use Rattle.hourbook.specs.declared.hourfile.owner.Owner.{Owner}
@@ -9,7 +9,7 @@ use Rattle.hourbook.specs.Deals.{equal_deal}
 use Rattle.hourbook.specs.declared.hourfile.ownership.Ownership.{Ownership}
 use Rattle.hourbook.specs.OwnerRows.{rows_of}
 use Rattle.hourbook.specs.Settled.{paid, credit, needed}
-use Rattle.std.proofs.lemmas.List.{append_assoc, take_at, drop_at, map-append, map-id, length-map}
+use Rattle.std.proofs.lemmas.List.{append_assoc, take_at, drop_at, map-append, length-map}
 use Rattle.sharing.specs.Shares.{total}
 use Rattle.sharing.specs.Writes.{written}
 

@@ -1,5 +1,5 @@
 -- The order of the records as the reader follows it, and as it is written. Assumes nothing.
-use Rattle.std.proofs.Common.{◌≡◌, ℕ, true, false, List, [], ◌∷◌, ◌++◌, length, drop, is_some, Some, None, unwrap_or, sym, refl, ap, ◌∙◌, subst, inl, inr, true≢false, append_assoc, append-nil, arith}
+use Rattle.std.proofs.Common.{◌≡◌, ℕ, true, false, List, [], ◌∷◌, ◌++◌, length, drop, is_some, Some, unwrap_or, sym, refl, ap, ◌∙◌, subst, inl, inr, true≢false, append_assoc, append-nil, arith}
 use Rattle.std.proofs.lemmas.List.{map_push}
 use Rattle.hourbook.specs.declared.hourfile.order.Phase.{Phase}
 use Rattle.hourbook.specs.declared.hourfile.order.Phase.TheVariants.{Start, Zones, Borders, Legs, Factors, Losses, Owners, Done}

@@ -1,5 +1,5 @@
 -- How large a spread can be. Assumes nothing.
-use Rattle.std.proofs.Common.{ℕ, ◌≤◌, ℤ, pos, negsuc, ◌-ℤ◌, nat_abs, arith}
+use Rattle.std.proofs.Common.{◌≤◌, ℤ, pos, negsuc, ◌-ℤ◌, nat_abs, arith}
 use Rattle.std.proofs.lemmas.Int.{ints}
 use Rattle.hourbook.specs.Meaning.{Toward}
 

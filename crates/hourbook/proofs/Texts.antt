@@ -1,9 +1,9 @@
 -- Numbers and lines under way. Assumes nothing.
-use Rattle.std.proofs.Common.{◌≡◌, ℕ, suc, ◌+◌, ◌-◌, ◌*◌, ◌/◌, ◌%◌, ◌^◌, ◌<◌, ◌≤◌, List, [], ◌∷◌, ◌++◌, length, get_or, take, drop, set, ℤ, pos, negsuc, decimal, sym, refl, ap, ◌∙◌, subst, arith}
+use Rattle.std.proofs.Common.{◌≡◌, ℕ, suc, ◌+◌, ◌-◌, ◌/◌, ◌%◌, ◌^◌, ◌<◌, ◌≤◌, List, [], ◌∷◌, ◌++◌, length, get_or, take, drop, set, ℤ, pos, decimal, sym, refl, ap, ◌∙◌, subst, arith}
 use Rattle.std.specs.Fmt.{signed_decimal}
 use Rattle.std.proofs.lemmas.Fmt.{decimal_digit, decimal_step, decimal_nonempty}
-use Rattle.std.proofs.lemmas.List.{append_assoc, append-nil, drop_more, drop-drop, take_more, set_at, set_split, length-append, length-take-le, length-drop, take-append-drop, take_at, drop_at, at_drop_more, at_drop_all}
-use Rattle.hourbook.specs.Text.{fields_of, line_of}
+use Rattle.std.proofs.lemmas.List.{append_assoc, append-nil, take_more, set_at, set_split, length-append, length-take-le, take-append-drop, at_drop_more, at_drop_all}
+use Rattle.hourbook.specs.Text.{fields_of}
 use Rattle.sharing.specs.Writes.{written}
 use Rattle.hourbook.specs.Wrote.{Wrote}
 use Rattle.sharing.proofs.Writing.{length-written, written-append}

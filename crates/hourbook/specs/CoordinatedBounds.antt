@@ -1,6 +1,6 @@
 -- That what tables of the coordinated method stand for keeps its limits. Assumes nothing.
-use Rattle.std.specs.Prelude.{◌≡◌, ℕ, zero, suc, ◌-◌, ◌<◌, ◌≤◌, List, [], ◌∷◌, map, length, ℤ, pos, negsuc, ◌-ℤ◌, Some, None, vec_items, vec_len, Option, slice_index_or, unsigned_abs, refl}
-use Rattle.std.proofs.Common.{sym, ap, subst, arith}
+use Rattle.std.specs.Prelude.{◌≡◌, ℕ, zero, suc, ◌-◌, ◌≤◌, List, [], ◌∷◌, map, length, ℤ, pos, negsuc, Some, None, vec_items, Option, slice_index_or, unsigned_abs}
+use Rattle.std.proofs.Common.{subst, arith}
 use Rattle.std.specs.List.{slice_get}
 use Rattle.std.proofs.lemmas.List.{length-map}
 use Rattle.std.proofs.lemmas.Int.{ints}
@@ -12,8 +12,8 @@ use Rattle.hourbook.specs.declared.hourfile.prices.Prices.{Prices}
 use Rattle.hourbook.specs.declared.region.rows.Zone as zone
 use Rattle.hourbook.specs.declared.region.rows.Line.{Line}
 use Rattle.hourbook.specs.declared.region.fault.Flaw.{Flaw}
-use Rattle.hourbook.specs.Tables.{cents_of, tenths_of, price_at}
-use Rattle.hourbook.specs.Meaning.{Meaning, Bounded, ZoneBounded, LineBounded, Toward}
+use Rattle.hourbook.specs.Tables.{cents_of, tenths_of}
+use Rattle.hourbook.specs.Meaning.{Bounded, ZoneBounded, LineBounded, Toward}
 use Rattle.hourbook.specs.Coordinated.{zones_of, border_line, coordinated_means}
 
 cents_small : (ps : List Price) (k : ℕ) → unsigned_abs (slice_index_or (cents_of ps) k (pos 0)) ≤ 500000

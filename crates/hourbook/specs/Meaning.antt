@@ -1,5 +1,5 @@
 -- What a region means, and the limits that every region keeps.
-use Rattle.std.specs.Prelude.{◌≡◌, ℕ, ◌≤◌, List, length, ℤ, pos, negsuc, ◌-ℤ◌, ◌≤ℤ◌, Some, None, Option, Result, unsigned_abs}
+use Rattle.std.specs.Prelude.{◌≡◌, ℕ, ◌≤◌, List, length, ℤ, pos, negsuc, ◌-ℤ◌, ◌≤ℤ◌, Some, Option, Result, unsigned_abs}
 use Rattle.std.specs.List.{slice_get}
 use Rattle.hourbook.specs.declared.region.rows.Zone.{Zone}
 use Rattle.hourbook.specs.declared.region.rows.Line.{Line}

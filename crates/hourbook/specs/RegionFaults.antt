@@ -1,7 +1,6 @@
 -- The number, the layer and the place of each fault of a region.
 use Rattle.std.specs.Prelude.{ℕ}
 use Rattle.hourbook.specs.FileFaults as file
-use Rattle.hourbook.specs.declared.region.fault.Flaw.{Flaw}
 use Rattle.hourbook.specs.declared.region.fault.Flaw.TheVariants.{Imbalance, Excess}
 use Rattle.hourbook.specs.declared.region.fault.RegionFault.{RegionFault}
 use Rattle.hourbook.specs.declared.region.fault.RegionFault.TheVariants.{File, Unsound}

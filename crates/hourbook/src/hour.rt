@@ -115,7 +115,7 @@ fn posted<R: Region>(
     memory: &mut [Row],
     work: &mut [i64],
 ) -> Result<RestingBook, BookFault>
-    ensures { IfOk result (λ book. Posted (meaning region.now) ownership.now hour book.used memory.old memory.new) }
+    ensures { IfOk result (λ book. Posted (R.meaning region.now) ownership.now hour book.used memory.old memory.new) }
 {
     let mut book = RestingBook::empty().open(memory, hour)?;
     let _ = book.settle(memory, region, ownership, work)?;

@@ -1,6 +1,6 @@
 -- Amounts that are dealt on add to what they were. Assumes nothing.
 use Rattle.std.proofs.Common.{◌≡◌, ℕ, ◌+◌, ◌≤◌, List, [], ◌∷◌, ◌++◌, map, length, sym, refl, ap, ◌∙◌, add_assoc, zero-add, arith}
-use Rattle.std.specs.List.{AllByRecursion as All}
+use Rattle.std.specs.List.{AllByRecursion}
 use Rattle.std.proofs.lemmas.List.{length-append}
 use Rattle.sharing.specs.Shares.{total, shares}
 use Rattle.sharing.specs.Levels.{dealt, shared_on}
@@ -24,7 +24,7 @@ length-dealt deal rows each (t ∷ ts) (x ∷ xs) h =
     omega (arith, length-append (deal t x) (dealt deal ts xs), each t x, length-dealt deal rows each ts xs (omega arith))
 
 -- where every x has a row, the shares add to the amounts that were shared on
-pub total-shared_on : (ts : List ℕ) (vs : List (List ℕ)) → length vs ≡ length ts → All SomeRow vs → total (shared_on ts vs) ≡ total ts
+pub total-shared_on : (ts : List ℕ) (vs : List (List ℕ)) → length vs ≡ length ts → AllByRecursion SomeRow vs → total (shared_on ts vs) ≡ total ts
 total-shared_on [] [] e h = refl
 total-shared_on [] (v ∷ vs) e h = absurd (omega arith)
 total-shared_on (t ∷ ts) [] e h = absurd (omega arith)

@@ -1,6 +1,6 @@
 -- What holds of every sharing of an amount t over rows with the weights ws. Assumes nothing.
 use Rattle.std.specs.Prelude.{◌≡◌, ℕ, ◌+◌, ◌-◌, ◌*◌, ◌/◌, ◌<◌, ◌≤◌, List, [], ◌∷◌, map, length, slice_index}
-use Rattle.std.specs.List.{AllByRecursion as All}
+use Rattle.std.specs.List.{AllByRecursion}
 use Rattle.sharing.specs.Shares.{total, counted, cumulative, whole, shares}
 use Rattle.sharing.specs.Levels.{shared_on}
 
@@ -58,8 +58,8 @@ SomeRow ws = 0 < length ws
 abbrev pub ThreeLevelsAddToTheAmount : Type 0
 ThreeLevelsAddToTheAmount = (t : ℕ) (ws : List ℕ) (vs us : List (List ℕ))
     → SomeRow ws
-    → length vs ≡ length ws → All SomeRow vs
-    → length us ≡ total (map length vs) → All SomeRow us
+    → length vs ≡ length ws → AllByRecursion SomeRow vs
+    → length us ≡ total (map length vs) → AllByRecursion SomeRow us
     → total (shared_on (shared_on (shares t ws) vs) us) ≡ t
 
 abbrev pub Figures : Type 0

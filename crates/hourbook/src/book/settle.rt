@@ -25,8 +25,8 @@ impl OpenBook {
         room: usize,
         places: usize,
     ) -> Result<i64, BookFault>
-        ensures answer { result ≡ settle_judged (judged (meaning region.now) (lines_in table.now) room) table.now self.now.used places self.now.settled }
-        ensures facts { IfOk result (Admits (meaning region.now) table.now self.now.used room places) }
+        ensures answer { result ≡ settle_judged (judged (R.meaning region.now) (lines_in table.now) room) table.now self.now.used places self.now.settled }
+        ensures facts { IfOk result (Admits (R.meaning region.now) table.now self.now.used room places) }
     {
         let income = judge(region, table, room)?;
         let used = self.used as usize;
@@ -51,9 +51,9 @@ impl OpenBook {
         table: &Ownership,
         work: &mut [i64],
     ) -> Result<i64, BookFault>
-        ensures answer { result ≡ settle_judged (judged (meaning region.now) (lines_in table.now) (length work.old)) table.now self.old.used (length memory.old) self.old.settled }
-        ensures work { work.new ≡ (if is_ok result then written work.old 0 (work_of (meaning region.now)) else work.old) }
-        ensures entries { memory.new ≡ (if is_ok result then written memory.old self.old.used (credits_of (origin_of self.old table.now) (meaning region.now) table.now) else memory.old) }
+        ensures answer { result ≡ settle_judged (judged (R.meaning region.now) (lines_in table.now) (length work.old)) table.now self.old.used (length memory.old) self.old.settled }
+        ensures work { work.new ≡ (if is_ok result then written work.old 0 (work_of (R.meaning region.now)) else work.old) }
+        ensures entries { memory.new ≡ (if is_ok result then written memory.old self.old.used (credits_of (origin_of self.old table.now) (R.meaning region.now) table.now) else memory.old) }
         ensures book { IfOk result (λ income. Advanced self.old self.new table.now income) }
         ensures kept { OnErr result (self.new ≡ self.old) }
     {

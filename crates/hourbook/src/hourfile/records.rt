@@ -1,5 +1,6 @@
 //! The records of an hour file, one after another.
 ghost use Rattle.std.specs.Prelude.{◌≡◌, ◌++◌, length, MatchOption, ◌==◌};
+ghost use Rattle.std.specs.Iterator.{at_most};
 ghost use Rattle.hourbook.specs.Encoding.{encoded};
 ghost use Rattle.hourbook.specs.Format.{Whole};
 
@@ -30,9 +31,7 @@ impl<'a> Iterator for Records<'a> {
 
     ghost next_gives = { λ s r t. MatchOption r ((Whole s.rest.now → ⊥) × (t.rest.now ≡ s.rest.now)) (λ x. s.rest.now ≡ encoded x ++ t.rest.now) };
 
-    ghost ends = { λ _. Unit {0} };
-
-    ghost remaining = { λ s. length s.rest.now };
+    ghost remaining = { λ s. at_most (length s.rest.now) };
 
     fn next(&mut self) -> Option<Record> {
         let record = first_record(self.rest)?;

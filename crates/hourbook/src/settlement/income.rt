@@ -17,8 +17,8 @@ fn zone_worth(zone: &Zone) -> i64
 
 // What the net position of the k-th zone is worth.
 fn worth_at<R: Region>(region: &R, k: usize) -> i64
-    requires { k < length (meaning region.now).zones }
-    ensures value { result ≡ slice_index_or (worths (meaning region.now)) k (pos 0) }
+    requires { k < length (R.meaning region.now).zones }
+    ensures value { result ≡ slice_index_or (worths (R.meaning region.now)) k (pos 0) }
     ensures bound { unsigned_abs result ≤ 500000000000 }
 {
     match region.zone(k) {
@@ -28,7 +28,7 @@ fn worth_at<R: Region>(region: &R, k: usize) -> i64
 }
 
 fn zone_count<R: Region>(region: &R) -> usize
-    ensures value { result ≡ length (meaning region.now).zones }
+    ensures value { result ≡ length (R.meaning region.now).zones }
     ensures few { result ≤ 16 }
 {
     region.zone_count()
@@ -36,7 +36,7 @@ fn zone_count<R: Region>(region: &R) -> usize
 
 // In cents, rounded toward minus infinity.
 pub(crate) fn income<R: Region>(region: &R) -> i64
-    ensures { result ≡ income_of (meaning region.now) }
+    ensures { result ≡ income_of (R.meaning region.now) }
 {
     let mut sum: i64 = 0;
     for k in 0..zone_count(region) {

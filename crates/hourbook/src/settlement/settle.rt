@@ -22,8 +22,8 @@ pub(crate) fn judge<R: Region>(
     table: &Ownership,
     room: usize,
 ) -> Result<i64, SettlementFault>
-    ensures answer { result ≡ judged (meaning region.now) (vec_len table.now.lines) room }
-    ensures facts { IfOk result (Accepted (meaning region.now) (vec_len table.now.lines) room) }
+    ensures answer { result ≡ judged (R.meaning region.now) (vec_len table.now.lines) room }
+    ensures facts { IfOk result (Accepted (R.meaning region.now) (vec_len table.now.lines) room) }
 {
     region.verdict()?;
     let lines = line_count(region);
@@ -65,10 +65,10 @@ fn credit_of(sum: i64) -> u64
 // Writes all weights, and then the lines' shares of `amount`.
 fn fill_work<R: Region>(region: &R, amount: u64, work: &mut [i64])
     requires small { amount ≤ 2000000000 }
-    requires some { 0 < length (meaning region.now).lines }
-    requires light { total (weights (meaning region.now)) ≤ 4000000000 }
-    requires room { 2 * length (meaning region.now).lines ≤ length work.old }
-    ensures { work.new ≡ written work.old 0 (map pos (weights (meaning region.now) ++ shares amount (weights (meaning region.now)))) }
+    requires some { 0 < length (R.meaning region.now).lines }
+    requires light { total (weights (R.meaning region.now)) ≤ 4000000000 }
+    requires room { 2 * length (R.meaning region.now).lines ≤ length work.old }
+    ensures { work.new ≡ written work.old 0 (map pos (weights (R.meaning region.now) ++ shares amount (weights (R.meaning region.now)))) }
 {
     let lines = line_count(region);
     let mut rows = [LineRow {
@@ -118,10 +118,10 @@ pub(crate) fn write<R: Region>(
     out: &mut [Row],
     at: usize,
 )
-    requires accepted { Accepted (meaning region.now) (vec_len table.now.lines) (length work.old) sum }
+    requires accepted { Accepted (R.meaning region.now) (vec_len table.now.lines) (length work.old) sum }
     requires room { at + needed sum table.now ≤ length out.old }
-    ensures work { work.new ≡ written work.old 0 (work_of (meaning region.now)) }
-    ensures out { out.new ≡ written out.old at (credits_of origin (meaning region.now) table.now) }
+    ensures work { work.new ≡ written work.old 0 (work_of (R.meaning region.now)) }
+    ensures out { out.new ≡ written out.old at (credits_of origin (R.meaning region.now) table.now) }
 {
     let lines = table.lines.len();
     fill_work(region, credit_of(sum), work);

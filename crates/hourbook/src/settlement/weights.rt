@@ -21,7 +21,7 @@ fn line_weight(line: &Line) -> u64
 }
 
 pub(crate) fn line_count<R: Region>(region: &R) -> usize
-    ensures value { result ≡ length (meaning region.now).lines }
+    ensures value { result ≡ length (R.meaning region.now).lines }
     ensures few { result ≤ 64 }
 {
     region.line_count()
@@ -29,8 +29,8 @@ pub(crate) fn line_count<R: Region>(region: &R) -> usize
 
 // The weight of the k-th line.
 fn weight_at<R: Region>(region: &R, k: usize) -> u64
-    requires { k < length (meaning region.now).lines }
-    ensures value { result ≡ slice_index (weights (meaning region.now)) k }
+    requires { k < length (R.meaning region.now).lines }
+    ensures value { result ≡ slice_index (weights (R.meaning region.now)) k }
     ensures bound { result ≤ 20000000000000 }
 {
     match region.line(k) {
@@ -41,7 +41,7 @@ fn weight_at<R: Region>(region: &R, k: usize) -> u64
 
 // What all lines weigh.
 pub(crate) fn weigh_all<R: Region>(region: &R) -> u64
-    ensures { result ≡ total (weights (meaning region.now)) }
+    ensures { result ≡ total (weights (R.meaning region.now)) }
 {
     let mut sum: u64 = 0;
     for k in 0..line_count(region) {
@@ -52,10 +52,10 @@ pub(crate) fn weigh_all<R: Region>(region: &R) -> u64
 
 // Writes the lines' weights to the first places of `rows` and of `work`.
 pub(crate) fn write_weights<R: Region>(region: &R, rows: &mut [LineRow], work: &mut [i64])
-    requires rows { length (meaning region.now).lines ≤ length rows.old }
-    requires work { length (meaning region.now).lines ≤ length work.old }
-    ensures rows { rows.new ≡ written rows.old 0 (line_rows_from 1 (weights (meaning region.now))) }
-    ensures work { work.new ≡ written work.old 0 (map pos (weights (meaning region.now))) }
+    requires rows { length (R.meaning region.now).lines ≤ length rows.old }
+    requires work { length (R.meaning region.now).lines ≤ length work.old }
+    ensures rows { rows.new ≡ written rows.old 0 (line_rows_from 1 (weights (R.meaning region.now))) }
+    ensures work { work.new ≡ written work.old 0 (map pos (weights (R.meaning region.now))) }
 {
     for k in 0..line_count(region) {
         let weight = weight_at(region, k);

@@ -1,4 +1,4 @@
-use Rattle.std.proofs.Common.{◌≡◌, length, take, vec_items, vec_len}
+use Rattle.std.proofs.Common.{◌≡◌, take, vec_items}
 use Rattle.std.specs.List.{flat_map}
 use Rattle.hourbook.specs.Hours.{page_of}
 use Rattle.hourbook.proofs.hour.pages.Given as goal

@@ -1,4 +1,4 @@
-use Rattle.std.proofs.Common.{◌≡◌, length, vec_items, vec_len, sym, ap, ◌∙◌, subst, arith}
+use Rattle.std.proofs.Common.{◌≡◌, length, vec_items, vec_len, ap, ◌∙◌, subst, arith}
 use Rattle.std.specs.List.{flat_map}
 use Rattle.std.proofs.lemmas.List.{with_items_is}
 use Rattle.std.proofs.lemmas.Result.{err_from_is_err_and}
@@ -7,20 +7,20 @@ use Rattle.hourbook.specs.declared.hourfile.network.Network.{Network}
 use Rattle.hourbook.specs.declared.hourfile.prices.Prices.{Prices}
 use Rattle.hourbook.specs.declared.region.coordinated.Coordinated.{Coordinated}
 use Rattle.hourbook.specs.Coordinated.{coordinated_means}
-use Rattle.hourbook.specs.Hours.{Posted, hour_means, page_of}
+use Rattle.hourbook.specs.Hours.{Posted, page_of}
 use Rattle.hourbook.specs.LossRule.{losses_means}
 use Rattle.hourbook.specs.Meaning.{Meaning}
 use Rattle.hourbook.specs.Tables.{cents_of, tenths_of}
 use Rattle.hourbook.proofs.hour.stated.Goals as goal
 
-pub returns-in-err-book : goal.returns-in-err-book
-returns-in-err-book c =
-    let p = err_from_is_err_and c.from-residual-in-err-book.result c.from-residual-in-err-book.ensures.1 in
+pub returns-in_err-book : goal.returns-in_err-book
+returns-in_err-book c =
+    let p = err_from_is_err_and c.from_residual-in_err-book.result c.from_residual-in_err-book.ensures.1 in
     rw p.1 tt
 
-pub returns-in-err-text : goal.returns-in-err-text
-returns-in-err-text c =
-    let p = err_from_is_err_and c.from-residual-in-err-text.result c.from-residual-in-err-text.ensures.1 in
+pub returns-in_err-text : goal.returns-in_err-text
+returns-in_err-text c =
+    let p = err_from_is_err_and c.from_residual-in_err-text.result c.from_residual-in_err-text.ensures.1 in
     rw p.1 tt
 
 abbrev below_means : Coordinated → Meaning
@@ -40,17 +40,17 @@ returns c =
     let told = c.in-Some.ensures in
     let file = c.args.file in
     let same = layered c.over-region.result.below c.in-Some.below c.over-region.result.table file.losses file.network file.prices c.over-region.ensures.0 c.over-region.ensures.1 told.0 told.1 in
-    let long : length c.posted.new.memory ≡ vec_len c.in-ok-memory.memory = omega (arith, c.posted.auto.memory, c.deref-mut.ensures.len) in
-    let back = with_items_is c.in-ok-memory.memory c.posted.new.memory long in
+    let long : length c.posted.new.memory ≡ vec_len c.in_ok-memory.memory = omega (arith, c.posted.auto.memory, c.deref_mut.ensures.len) in
+    let back = with_items_is c.in_ok-memory.memory c.posted.new.memory long in
     record {
       flaw = c.in-Some.below.flaw;
       judged = told.2;
-      used = c.in-ok-book.book.used;
-      before = c.deref-mut.result.now;
+      used = c.in_ok-book.book.used;
+      before = c.deref_mut.result.now;
       after = c.posted.new.memory;
-      posted = subst (λ m. Posted m file.ownership file.hour c.in-ok-book.book.used c.deref-mut.result.now c.posted.new.memory) same c.in-ok-book.ensures;
+      posted = subst (λ m. Posted m file.ownership file.hour c.in_ok-book.book.used c.deref_mut.result.now c.posted.new.memory) same c.in_ok-book.ensures;
       stated =
-          c.in-ok-text.ensures
-          ∙ (ap (λ m. flat_map (page_of c.in-ok-book.book.used m) c.as-slice-2.result.now) (c.as-slice.ensures.value ∙ back)
-          ∙ ap (flat_map (page_of c.in-ok-book.book.used c.posted.new.memory)) c.as-slice-2.ensures.value);
+          c.in_ok-text.ensures
+          ∙ (ap (λ m. flat_map (page_of c.in_ok-book.book.used m) c.as_slice-2.result.now) (c.as_slice.ensures.value ∙ back)
+          ∙ ap (flat_map (page_of c.in_ok-book.book.used c.posted.new.memory)) c.as_slice-2.ensures.value);
     }

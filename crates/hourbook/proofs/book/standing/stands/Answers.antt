@@ -1,4 +1,4 @@
-use Rattle.std.proofs.Common.{sym, ◌∙◌, arith, rules}
+use Rattle.std.proofs.Common.{sym, ◌∙◌, arith}
 use Rattle.hourbook.specs.declared.entry.kind.EntryKind.TheVariants.{Credit, TakenBack, Payment}
 use Rattle.hourbook.proofs.Stands.{standing_other, standing_here}
 use Rattle.hourbook.proofs.book.standing.stands.Goals as goal

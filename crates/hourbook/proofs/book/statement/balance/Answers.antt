@@ -1,12 +1,12 @@
-use Rattle.std.proofs.Common.{◌≡◌, pos, fold, sym, ◌∙◌, arith, rules}
+use Rattle.std.proofs.Common.{fold, arith}
 use Rattle.std.proofs.lemmas.Int.{ints, to_z-of_z}
 use Rattle.hourbook.specs.Statements.{added}
 use Rattle.hourbook.proofs.Owns.{blank, own_yes, own_no, own_none}
 use Rattle.hourbook.proofs.book.statement.balance.Goals as goal
 use Rattle.hourbook.proofs.book.statement.balance.Goals.{then-e-owner, else-e-owner}
 
-pub overflow-add-sum : goal.overflow-add-sum
-overflow-add-sum c = omega (arith, ints)
+pub overflow_add-sum : goal.overflow_add-sum
+overflow_add-sum c = omega (arith, ints)
 
 pub loop-e-preserved : goal.loop-e-preserved
 loop-e-preserved c =

@@ -1,4 +1,4 @@
-use Rattle.std.proofs.Common.{◌≡◌, ◌<◌, length, ap, arith, w64, rules}
+use Rattle.std.proofs.Common.{◌<◌, length, ap, arith, w64}
 use Rattle.std.proofs.lemmas.Int.{to_z-of_z}
 use Rattle.std.proofs.lemmas.Bool.Decides.{nat_tests}
 use Rattle.hourbook.specs.Statements.{balance_line, text_of, own}
@@ -32,8 +32,8 @@ loop-e-preserved c =
           omega (arith, w.left-is)
     ]
 
-pub overflow-sub-result : goal.overflow-sub-result
-overflow-sub-result c =
+pub overflow_sub-result : goal.overflow_sub-result
+overflow_sub-result c =
     let l = left_none c.args.owner c.args.entries.now c.loop-e.e-index c.loop-e-test.false in
     omega arith
 

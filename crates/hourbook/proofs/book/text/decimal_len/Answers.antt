@@ -1,9 +1,9 @@
-use Rattle.std.proofs.Common.{◌^◌, ◌<◌, ◌≤◌, arith, rules}
+use Rattle.std.proofs.Common.{arith, rules}
 use Rattle.hourbook.proofs.Decimal.{length_step, length_one, length_few}
 use Rattle.hourbook.proofs.book.text.decimal_len.Goals as goal
 
-pub overflow-add-len : goal.overflow-add-len
-overflow-add-len c = let few = length_few c.args.n (search rules) in search rules
+pub overflow_add-len : goal.overflow_add-len
+overflow_add-len c = let few = length_few c.args.n (search rules) in search rules
 
 pub loop-rest-preserved : goal.loop-rest-preserved
 loop-rest-preserved c =

@@ -1,4 +1,3 @@
-use Rattle.std.proofs.Common.{◌≡◌, ◌+◌, drop, refl, ap, add-one, arith}
 use Rattle.hourbook.proofs.Texts.{wrote_byte}
 use Rattle.hourbook.proofs.book.text.put_byte.Goals as goal
 

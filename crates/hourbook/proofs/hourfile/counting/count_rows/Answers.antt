@@ -1,4 +1,4 @@
-use Rattle.std.proofs.Common.{◌≡◌, arith}
+use Rattle.std.proofs.Common.{arith}
 use Rattle.sharing.proofs.Totals.{total_next, total_end}
 use Rattle.hourbook.specs.OwnerRows.{line_rows}
 use Rattle.hourbook.proofs.hourfile.counting.count_rows.Goals as goal

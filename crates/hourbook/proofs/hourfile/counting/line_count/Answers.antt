@@ -1,10 +1,10 @@
-use Rattle.std.proofs.Common.{◌≡◌, vec_items, arith}
+use Rattle.std.proofs.Common.{vec_items, arith}
 use Rattle.sharing.proofs.Totals.{total_next, total_end}
 use Rattle.hourbook.specs.OwnerRows.{leg_rows}
 use Rattle.hourbook.proofs.hourfile.counting.line_count.Goals as goal
 
-pub overflow-add-sum : goal.overflow-add-sum
-overflow-add-sum c = let leg = c.index.result.now in omega (arith, leg.few, c.args.line.now.few)
+pub overflow_add-sum : goal.overflow_add-sum
+overflow_add-sum c = let leg = c.index.result.now in omega (arith, leg.few, c.args.line.now.few)
 
 pub loop-i-preserved : goal.loop-i-preserved
 loop-i-preserved c =

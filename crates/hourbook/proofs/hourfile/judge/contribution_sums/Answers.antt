@@ -1,4 +1,4 @@
-use Rattle.std.proofs.Common.{◌≡◌, ◌+◌, sym, refl, ap, ◌∙◌, subst}
+use Rattle.std.proofs.Common.{◌+◌, sym, ap, subst}
 use Rattle.hourbook.specs.Wholeness.{contribution_to}
 use Rattle.hourbook.proofs.Passing.{passing_start, passing_next}
 use Rattle.hourbook.proofs.Summing.{Summed, by_leg, summed_next, summed_none, summed_same}
@@ -23,5 +23,5 @@ loop-record-preserved c =
     let x = c.in-Some.record in (
       c.loop-record.invariant.0 + 1,
       passing_next _ _ _ _ x s c.in-Some.ensures.steps,
-      summed_same contribution_to s.records x c.loop-record.sums.amounts c.loop-record.invariant.2 (λ n _. by_leg n x _ c.in-default-leg.ensures),
+      summed_same contribution_to s.records x c.loop-record.sums.amounts c.loop-record.invariant.2 (λ n _. by_leg n x _ c.in_default-leg.ensures),
     )

@@ -1,4 +1,4 @@
-use Rattle.std.proofs.Common.{◌≡◌, ℕ, ◌+◌, Bool, true, false, List, [], ◌∷◌, ◌++◌, sym, refl, ap, ◌∙◌, subst, inl, inr, true≢false, arith}
+use Rattle.std.proofs.Common.{◌≡◌, ◌+◌, Bool, true, false, List, [], ◌∷◌, ◌++◌, sym, refl, ap, ◌∙◌, subst, inl, inr, true≢false, arith}
 use Rattle.std.proofs.lemmas.List.Sums.{fold_push}
 use Rattle.hourbook.specs.declared.hourfile.«record».Kind.{Kind}
 use Rattle.hourbook.specs.declared.hourfile.«record».Record.{Record}
@@ -56,7 +56,7 @@ returns-then-not-suffices c =
         refl,
         inr (
           refl,
-          passing_end _ _ _ s c.in-default.ensures.steps.0 (λ rs. Limited rs × (Furnished (tallied rs) c.args.method → ⊥)) (
+          passing_end _ _ _ s c.in_default.ensures.steps.0 (λ rs. Limited rs × (Furnished (tallied rs) c.args.method → ⊥)) (
             subst WithinLimits (sym e) c.loop-record.invariant.1,
             λ h.
                 absurd (not_both _ (c.suffices.ensures.1 (subst (λ t. Furnished t c.args.method) e h)) c.if-not-suffices.true),
@@ -72,6 +72,6 @@ returns c =
     let e = c.loop-record.invariant.0.1 in
     let furnished = c.suffices.ensures.0 c.if-not-suffices.false in
     record {
-      rule = passing_end _ _ _ s c.in-default.ensures.steps.0 (λ rs. (tallied rs ≡ c.loop-record.tally) × WithinLimits c.loop-record.tally × Furnished c.loop-record.tally c.args.method) (e, c.loop-record.invariant.1, furnished);
+      rule = passing_end _ _ _ s c.in_default.ensures.steps.0 (λ rs. (tallied rs ≡ c.loop-record.tally) × WithinLimits c.loop-record.tally × Furnished c.loop-record.tally c.args.method) (e, c.loop-record.invariant.1, furnished);
       limits = (c.loop-record.invariant.1, furnished);
     }

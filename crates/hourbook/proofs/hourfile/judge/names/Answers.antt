@@ -1,4 +1,4 @@
-use Rattle.std.proofs.Common.{◌≡◌, ◌+◌, sym, refl, ap, ◌∙◌, subst, true≢false}
+use Rattle.std.proofs.Common.{◌+◌, sym, refl, ap, ◌∙◌, subst, true≢false}
 use Rattle.std.proofs.lemmas.List.Sums.{fold_push}
 use Rattle.hourbook.specs.Naming.{AllNamed, Named, noted}
 use Rattle.hourbook.specs.Passes.{FirstOut, Passed}
@@ -40,6 +40,6 @@ pub returns : goal.returns
 returns c =
     let s = c.loop-record.invariant.0 in
     record {
-      rule = subst (λ m. Passed (AllNamed m) c.args.bytes.now) c.of-names.ensures (passing_end _ _ _ s c.in-default.ensures.steps.0 (AllNamed c.of-names.result) c.loop-record.invariant.2);
+      rule = subst (λ m. Passed (AllNamed m) c.args.bytes.now) c.of-names.ensures (passing_end _ _ _ s c.in_default.ensures.steps.0 (AllNamed c.of-names.result) c.loop-record.invariant.2);
       number = tt;
     }

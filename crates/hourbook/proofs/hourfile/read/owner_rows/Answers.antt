@@ -1,4 +1,4 @@
-use Rattle.std.proofs.Common.{◌≡◌, Bool, eqb, [], ◌∷◌, get_or, take, sym, refl, ap, ◌∙◌, arith}
+use Rattle.std.proofs.Common.{Bool, eqb, [], ◌∷◌, get_or, sym, ap, ◌∙◌, arith}
 use Rattle.std.proofs.lemmas.List.{take_all}
 use Rattle.std.proofs.lemmas.Slice.{pushed}
 use Rattle.std.proofs.lemmas.Bool.{eq-eqb, ne_eqb}
@@ -6,7 +6,7 @@ use Rattle.hourbook.specs.declared.hourfile.«record».OwnerRecord.{OwnerRecord}
 use Rattle.hourbook.specs.OwnershipRead.{owner_row, rows_of_leg}
 use Rattle.hourbook.proofs.Kept.{kept_yes, kept_no}
 use Rattle.hourbook.proofs.hourfile.read.owner_rows.Goals as goal
-use Rattle.hourbook.proofs.hourfile.read.owner_rows.Goals.{then-record-leg+in-ok-push, else-record-leg}
+use Rattle.hourbook.proofs.hourfile.read.owner_rows.Goals.{then-record-leg+in_ok-push, else-record-leg}
 
 abbrev none : OwnerRecord
 none = record { leg = 0; owner = 0; key = 0 }
@@ -17,9 +17,9 @@ loop-record-preserved c =
     let os = c.args.owners.now in
     let wanted : OwnerRecord → Bool = λ r. eqb r.leg c.args.leg in
     elim c.if-record-leg.branch [
-      | then-record-leg+in-ok-push w ↦
+      | then-record-leg+in_ok-push w ↦
           let more = kept_yes owner_row wanted os i none c.loop-record-test.true (eq-eqb _ _ w.if-record-leg.true) in
-          rw w.rows-is (pushed (owner_row (get_or os i none) ∷ []) c.loop-record.invariant w.in-ok-push.was w.push.ensures.items ∙ sym more)
+          rw w.rows-is (pushed (owner_row (get_or os i none) ∷ []) c.loop-record.invariant w.in_ok-push.was w.push.ensures.items ∙ sym more)
       | else-record-leg w ↦
           let more = kept_no owner_row wanted os i none c.loop-record-test.true (ne_eqb _ _ w.if-record-leg.false) in
           rw w.rows-is (c.loop-record.invariant ∙ sym more)

@@ -1,4 +1,4 @@
-use Rattle.std.proofs.Common.{◌≡◌, ◌≤◌, ◌++◌, map, take}
+use Rattle.std.proofs.Common.{◌≡◌, ◌≤◌, map, take}
 use Rattle.hourbook.specs.Rising.{owners_below, number_of}
 use Rattle.hourbook.proofs.hourfile.rising.gather.Given as goal
 

@@ -1,6 +1,5 @@
-use Rattle.std.proofs.Common.{◌≡◌, true, false, cond, vec_items, sym, refl, ap, ◌∙◌, arith, rules, eq-eqb}
+use Rattle.std.proofs.Common.{vec_items, sym, ◌∙◌, arith, eq-eqb}
 use Rattle.std.proofs.lemmas.Bool.{ne_eqb}
-use Rattle.hourbook.specs.Rising.{has}
 use Rattle.hourbook.proofs.Having.{row_next, row_none, cond_at, cond_past}
 use Rattle.hourbook.proofs.hourfile.rising.leg_has.Goals as goal
 

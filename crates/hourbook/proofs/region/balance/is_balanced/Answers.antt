@@ -1,33 +1,32 @@
-use Rattle.std.proofs.Common.{◌≡◌, ℕ, ◌+◌, ◌<◌, true, false, length, get_or, ℤ, pos, sym, refl, ap, ◌∙◌, arith, below_more}
+use Rattle.std.proofs.Common.{◌≡◌, ℕ, true, get_or, pos, sym, refl, ap, ◌∙◌, arith, below_more}
 use Rattle.std.proofs.lemmas.List.{get_or-map, length-map}
 use Rattle.std.proofs.lemmas.Int.{ints}
 use Rattle.hourbook.specs.Tables.{tenths_of}
 use Rattle.hourbook.specs.SignedSums.{sum_z}
-use Rattle.hourbook.specs.Balance.{net_capacity}
 use Rattle.hourbook.proofs.region.balance.is_balanced.Goals as goal
-use Rattle.hourbook.proofs.region.balance.is_balanced.Goals.{After-is-met}
+use Rattle.hourbook.proofs.region.balance.is_balanced.Goals.{After-is_met}
 
 -- the net position at hand, as the definition reads it
-here : (c : goal.After-is-met) → get_or (tenths_of c.args.positions.now) c.loop-k.k (pos 0) ≡ c.index-positions-k.result.tenths
+here : (c : goal.After-is_met) → get_or (tenths_of c.args.positions.now) c.loop-k.k (pos 0) ≡ c.index-positions-k.result.tenths
 here c =
     get_or-map (λ n. n.tenths) c.args.positions.now c.loop-k.k c.index-positions-k.result (pos 0) c.loop-k-test.true
     ∙ ap (λ n. n.tenths) (sym c.index-positions-k.is)
 
-pub returns-then-not-is-met : goal.returns-then-not-is-met
-returns-then-not-is-met c =
-    let b = (goal.at.returns-then-not-is-met c).After-is-met in
+pub returns-then-not-is_met : goal.returns-then-not-is_met
+returns-then-not-is_met c =
+    let b = (goal.at.returns-then-not-is_met c).After-is_met in
     let long = length-map c.args.positions.now (λ n. n.tenths) in (
       λ e. let z : ◌≡◌ {A = ℕ} 0 1 = cc in absurd (omega arith),
       λ balanced.
           let told = balanced.each c.loop-k.k (omega arith) in
-          let met : c.is-met.result ≡ true = c.is-met.ensures.1 (sym (here b) ∙ told) in
+          let met : c.is_met.result ≡ true = c.is_met.ensures.1 (sym (here b) ∙ told) in
           let z : ◌≡◌ {A = ℕ} 0 1 = cc in absurd (omega arith),
     )
 
 pub loop-k-preserved : goal.loop-k-preserved
 loop-k-preserved c =
-    let b = (goal.at.loop-k-preserved c).After-is-met in
-    below_more _ _ c.loop-k.invariant (here b ∙ c.is-met.ensures.0 c.if-not-is-met.false)
+    let b = (goal.at.loop-k-preserved c).After-is_met in
+    below_more _ _ c.loop-k.invariant (here b ∙ c.is_met.ensures.0 c.if-not-is_met.false)
 
 pub returns : goal.returns
 returns c =

@@ -1,4 +1,4 @@
-use Rattle.std.proofs.Common.{◌*◌, ◌^◌, ◌≤◌, ℤ, ◌*ℤ◌, nat_abs, refl, arith, w32, w64, SFits, rules}
+use Rattle.std.proofs.Common.{◌*◌, ◌≤◌, ℤ, ◌*ℤ◌, nat_abs, arith, w32, w64, SFits, rules}
 use Rattle.std.proofs.lemmas.Int.{ints, to_z-of_z}
 use Rattle.hourbook.proofs.Facts.{product_le}
 use Rattle.hourbook.proofs.settlement.income.zone_worth.Goals as goal

@@ -1,7 +1,7 @@
-use Rattle.std.proofs.Common.{◌≡◌, ℕ, ◌-◌, ◌*◌, ◌<◌, ◌≤◌, List, ◌++◌, map, length, take, drop, ℤ, pos, nat_abs, Ok, vec_items, vec_len, sym, refl, ap, ◌∙◌, subst, arith, w64, SFits, to_z, of_z, rules}
+use Rattle.std.proofs.Common.{◌≡◌, ◌-◌, ◌*◌, ◌<◌, ◌≤◌, ◌++◌, map, length, take, drop, pos, nat_abs, vec_items, ap, ◌∙◌, subst, arith, w64, SFits, to_z, of_z}
 use Rattle.std.proofs.lemmas.List.{length-map}
 use Rattle.std.proofs.lemmas.Int.{ints, to_z-of_z}
-use Rattle.sharing.specs.Shares.{total, shares}
+use Rattle.sharing.specs.Shares.{shares}
 use Rattle.sharing.specs.Writes.{written}
 use Rattle.sharing.proofs.Lawful.{adds, length-shares}
 use Rattle.hourbook.specs.Worths.{weights, weight, income_of}
@@ -9,9 +9,9 @@ use Rattle.hourbook.specs.Settled.{credit, work_of, paid}
 use Rattle.hourbook.proofs.Parts.{second, abs_all, credit_small}
 use Rattle.hourbook.proofs.settlement.settle.write.Given as given
 use Rattle.hourbook.proofs.settlement.settle.write.Goals as goal
-use Rattle.hourbook.proofs.settlement.settle.write.Goals.{After-fill-work}
+use Rattle.hourbook.proofs.settlement.settle.write.Goals.{After-fill_work}
 
-module _ (g : given.Over) (c : goal.After-fill-work g) where
+module _ (g : given.Over) (c : goal.After-fill_work g) where
   fitted : to_z w64 (of_z w64 c.args.sum) ≡ c.args.sum
   fitted =
       let fits : SFits w64 c.args.sum = omega (arith, ints, c.requires.accepted.small) in
@@ -21,14 +21,14 @@ module _ (g : given.Over) (c : goal.After-fill-work g) where
   sum_is : to_z w64 (of_z w64 c.args.sum) ≡ income_of (g.R.Region.meaning c.args.region.now)
   sum_is = fitted ∙ c.requires.accepted.is
 
-  work_is : c.fill-work.new.work ≡ written c.args.work.now 0 (work_of (g.R.Region.meaning c.args.region.now))
+  work_is : c.fill_work.new.work ≡ written c.args.work.now 0 (work_of (g.R.Region.meaning c.args.region.now))
   work_is =
       let ws = weights (g.R.Region.meaning c.args.region.now) in
-      let same : c.credit-of.result ≡ credit (income_of (g.R.Region.meaning c.args.region.now)) = c.credit-of.ensures ∙ ap credit sum_is in
-      c.fill-work.ensures ∙ ap (λ t. written c.args.work.now 0 (map pos (ws ++ shares t ws))) same
+      let same : c.credit_of.result ≡ credit (income_of (g.R.Region.meaning c.args.region.now)) = c.credit_of.ensures ∙ ap credit sum_is in
+      c.fill_work.ensures ∙ ap (λ t. written c.args.work.now 0 (map pos (ws ++ shares t ws))) same
 
   -- the second half of work memory holds the lines' shares
-  parts_are : take (2 * c.len-lines.result - c.len-lines.result) (drop c.len-lines.result c.fill-work.new.work) ≡ map pos (shares (credit (income_of (g.R.Region.meaning c.args.region.now))) (weights (g.R.Region.meaning c.args.region.now)))
+  parts_are : take (2 * c.len-lines.result - c.len-lines.result) (drop c.len-lines.result c.fill_work.new.work) ≡ map pos (shares (credit (income_of (g.R.Region.meaning c.args.region.now))) (weights (g.R.Region.meaning c.args.region.now)))
   parts_are =
       let m = g.R.Region.meaning c.args.region.now in
       let ws = weights m in
@@ -38,11 +38,11 @@ module _ (g : given.Over) (c : goal.After-fill-work g) where
       let long : length ws ≡ n = omega (arith, l, c.requires.accepted.lines, c.len-lines.ensures, c.args.table.now.lines.ok.0) in
       ap (λ w. take (2 * n - n) (drop n w)) work_is ∙ second c.args.work.now ws (shares t ws) n long (length-shares t ws ∙ long)
 
-pub fill-work-requires : goal.fill-work-requires
-fill-work-requires g c =
+pub fill_work-requires : goal.fill_work-requires
+fill_work-requires g c =
     let acc = c.requires.accepted in
     let fits : SFits w64 c.args.sum = omega (arith, ints, acc.small) in
-    let same : c.credit-of.result ≡ credit c.args.sum = c.credit-of.ensures ∙ ap credit (to_z-of_z w64 _ fits) in
+    let same : c.credit_of.result ≡ credit c.args.sum = c.credit_of.ensures ∙ ap credit (to_z-of_z w64 _ fits) in
     record {
       small = omega (arith, credit_small c.args.sum, acc.small);
       some = omega (arith, acc.lines, c.args.table.now.some);
@@ -57,7 +57,7 @@ pay-requires g c =
     let t = credit (income_of m) in
     let acc = c.requires.accepted in
     let l = length-map m.lines weight in
-    let b = (goal.at.pay-requires g c).After-fill-work in
+    let b = (goal.at.pay-requires g c).After-fill_work in
     let ss = shares t ws in
     let len = length-shares t ws in
     let lem = length-map ss pos in
@@ -74,12 +74,12 @@ pay-requires g c =
 pub returns : goal.returns
 returns g c =
     let m = g.R.Region.meaning c.args.region.now in
-    let b = (goal.at.returns g c).After-fill-work in
+    let b = (goal.at.returns g c).After-fill_work in
     let lines = vec_items c.args.table.now.lines in
     let owners = vec_items c.args.table.now.owners in
     let origin = c.args.origin in
     let t = credit (income_of m) in
-    let parts : map nat_abs (take (2 * c.len-lines.result - c.len-lines.result) (drop c.len-lines.result c.fill-work.new.work)) ≡ shares t (weights m) = ap (map nat_abs) (parts_are g b) ∙ abs_all (shares t (weights m)) in
+    let parts : map nat_abs (take (2 * c.len-lines.result - c.len-lines.result) (drop c.len-lines.result c.fill_work.new.work)) ≡ shares t (weights m) = ap (map nat_abs) (parts_are g b) ∙ abs_all (shares t (weights m)) in
     record {
       work = work_is g b;
       out =

@@ -1,4 +1,4 @@
-use Rattle.std.proofs.Common.{◌≡◌, vec_items, sym, refl, ap, ◌∙◌, w32, SFits, rules}
+use Rattle.std.proofs.Common.{◌≡◌, vec_items, ap, ◌∙◌, w32, SFits, rules}
 use Rattle.std.proofs.lemmas.Int.{to_z-of_z}
 use Rattle.hourbook.specs.declared.hourfile.border.Border.{Border}
 use Rattle.hourbook.specs.declared.hourfile.«record».BorderRecord.{BorderRecord}
@@ -18,5 +18,5 @@ returns c =
     let fits : SFits w32 c.args.record.capacity = search rules in
     let capacity : c.in-Some.border.capacity ≡ c.args.record.capacity = t.2 ∙ to_z-of_z w32 _ fits in
     let same = border_same c.in-Some.border c.args.record t.0 t.1 capacity in
-    let more = image_more border_said (vec_items c.args.self.now.borders) (vec_items c.push.new.self) c.in-Some.border c.args.record c.in-ok-push.ensures.items same in
+    let more = image_more border_said (vec_items c.args.self.now.borders) (vec_items c.push.new.self) c.in-Some.border c.args.record c.in_ok-push.ensures.items same in
     cc

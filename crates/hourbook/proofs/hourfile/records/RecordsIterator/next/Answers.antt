@@ -11,7 +11,7 @@ split bytes r n size begins =
 
 pub returns : goal.returns
 returns c =
-    let told = c.in-ok-record.ensures in
+    let told = c.in_ok-record.ensures in
     record {
       steps = rw take_rest (split _ _ _ c.size.ensures.value told);
       goes = search (rules, take_rest, length-drop);
