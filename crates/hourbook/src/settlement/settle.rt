@@ -81,12 +81,12 @@ fn fill_work<R: Region>(region: &R, amount: u64, work: &mut [i64])
 }
 
 // Credits the owners: an income by the lines' shares, a loss in equal parts.
-fn pay(sum: i64, parts: &[i64], origin: Origin, table: &Ownership, out: &mut [Row], at: usize)
+fn pay(sum: i64, parts: &[i64], origin: Origin, table: &Ownership, out: &mut [Row])
     requires small { unsigned_abs sum ≤ 2000000000 }
     requires parts { total (map unsigned_abs parts.now) ≤ 2000000000 }
     requires long { vec_len table.now.lines ≤ length parts.now }
-    requires room { at + needed sum table.now ≤ length out.old }
-    ensures { out.new ≡ written out.old at (paid origin sum (map unsigned_abs parts.now) table.now.lines.items table.now.owners.items) }
+    requires room { needed sum table.now ≤ length out.old }
+    ensures { out.new ≡ written out.old 0 (paid origin sum (map unsigned_abs parts.now) table.now.lines.items table.now.owners.items) }
 {
     if sum < 0 {
         let credit = Credit {
@@ -96,15 +96,9 @@ fn pay(sum: i64, parts: &[i64], origin: Origin, table: &Ownership, out: &mut [Ro
             direction: Direction::Borne,
         };
         // within the limits, so never refused
-        let _ = share(
-            sum.unsigned_abs(),
-            table.owners.as_slice(),
-            &credit,
-            out,
-            at,
-        );
+        let _ = share(sum.unsigned_abs(), &table.owners, &credit, out, 0);
     } else {
-        let _ = deal_lines(parts, origin, table.lines.as_slice(), out, at);
+        deal_lines(parts, origin, &table.lines, out);
     }
 }
 
@@ -125,5 +119,5 @@ pub(crate) fn write<R: Region>(
 {
     let lines = table.lines.len();
     fill_work(region, credit_of(sum), work);
-    pay(sum, &work[lines..2 * lines], origin, table, out, at);
+    pay(sum, &work[lines..2 * lines], origin, table, &mut out[at..]);
 }

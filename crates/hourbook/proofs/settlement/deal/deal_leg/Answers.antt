@@ -16,8 +16,8 @@ returns c =
     let whole : total (keys rows) ≡ 10000 = leg.whole in
     let n = length-map rows (λ r. r.key) in
     let m = length_leg c.args.origin c.args.line c.args.amount leg in
-    let e = c.as_slice.ensures.value in
+    let e = c.deref.ensures.value in
     record {
-      memory = accepted_memory (λ (r : OwnerRow). r.key) (λ (r : OwnerRow) s. credit_row c.args.origin c.args.line leg.number r.owner (directed Received s)) c.args.amount rows c.args.out.now _ c.args.at c.share.result (rw e at c.share.ensures.answer) (rw e at c.share.ensures.memory) c.requires.small (omega arith) (omega arith) (omega arith);
-      place = omega arith;
+      memory = accepted_memory (λ (r : OwnerRow). r.key) (λ (r : OwnerRow) s. credit_row c.args.origin c.args.line leg.number r.owner (directed Received s)) c.args.amount rows c.args.out.now _ 0 c.share.result (rw e at c.share.ensures.answer) (rw e at c.share.ensures.memory) c.requires.small (omega arith) (omega arith) (omega arith);
+      count = omega arith;
     }
