@@ -11,7 +11,6 @@ impl Prices {
         ensures bound { unsigned_abs result ≤ 500000 }
     {
         let k = usize::from(zone).saturating_sub(1);
-        let list = self.list();
-        if k < list.len() { list[k].cents() } else { 0 }
+        self.list().get(k).map_or(0, |price| price.get())
     }
 }
