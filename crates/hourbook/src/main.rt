@@ -8,6 +8,7 @@ mod hourfile;
 mod notice;
 mod region;
 mod settlement;
+mod within;
 
 use hour::{Failure, statements};
 use std::io::{Read, Write};
