@@ -9,14 +9,15 @@ use crate::entry::credit::{Credit, Direction, Origin};
 use crate::entry::row::Row;
 use crate::hourfile::owned_leg::OwnedLeg;
 use crate::hourfile::owned_line::OwnedLine;
-use sharing::{Plain, share};
+use crate::settlement::amount::{amount_of, share_amount};
+use sharing::{Amount, Plain};
 
 // A leg's amount, credited to its owners by key. Answers how many credits it wrote, from the front of `out` on.
-fn deal_leg(amount: u64, origin: Origin, line: u8, leg: &OwnedLeg, out: &mut [Row]) -> usize
-    requires small { amount ≤ 2000000000 }
-    requires room { length (leg_deal origin line amount leg.now) ≤ length out.old }
-    ensures memory { out.new ≡ written out.old 0 (leg_deal origin line amount leg.now) }
-    ensures count { result ≡ length (leg_deal origin line amount leg.now) }
+#[tactic(auto, using(crate::proofs::Dealing::length_leg))]
+fn deal_leg(amount: Amount, origin: Origin, line: u8, leg: &OwnedLeg, out: &mut [Row]) -> usize
+    requires { length (leg_deal origin line amount.cents leg.now) ≤ length out.old }
+    ensures memory { out.new ≡ written out.old 0 (leg_deal origin line amount.cents leg.now) }
+    ensures count { result ≡ length (leg_deal origin line amount.cents leg.now) }
 {
     let credit = Credit {
         origin,
@@ -24,25 +25,22 @@ fn deal_leg(amount: u64, origin: Origin, line: u8, leg: &OwnedLeg, out: &mut [Ro
         leg: leg.number,
         direction: Direction::Received,
     };
-    // within the limits, so never refused
-    let _ = share(amount, &leg.owners, &credit, out, 0);
+    share_amount(amount, &leg.owners, &credit, out);
     leg.owners.len()
 }
 
 // A line's amount, shared over its legs by contribution and credited to their owners.
-fn deal_line(amount: u64, origin: Origin, line: &OwnedLine, out: &mut [Row]) -> usize
-    requires small { amount ≤ 2000000000 }
-    requires room { length (line_deal origin amount line.now) ≤ length out.old }
-    ensures memory { out.new ≡ written out.old 0 (line_deal origin amount line.now) }
-    ensures count { result ≡ length (line_deal origin amount line.now) }
+fn deal_line(amount: Amount, origin: Origin, line: &OwnedLine, out: &mut [Row]) -> usize
+    requires { length (line_deal origin amount.cents line.now) ≤ length out.old }
+    ensures memory { out.new ≡ written out.old 0 (line_deal origin amount.cents line.now) }
+    ensures count { result ≡ length (line_deal origin amount.cents line.now) }
 {
     let mut parts = [0i64; 64];
-    // within the limits, so never refused
-    let _ = share(amount, &line.legs, &Plain, &mut parts, 0);
+    share_amount(amount, &line.legs, &Plain, &mut parts);
     let mut count = 0;
     for (leg, part) in line.legs.iter().zip(&parts) {
         count += deal_leg(
-            part.unsigned_abs(),
+            amount_of(*part),
             origin,
             line.number,
             leg,
@@ -67,7 +65,7 @@ pub(crate) fn deal_lines(
 {
     let mut count = 0;
     for (line, amount) in lines.iter().zip(amounts) {
-        count += deal_line(amount.unsigned_abs(), origin, line, &mut out[count..]);
+        count += deal_line(amount_of(*amount), origin, line, &mut out[count..]);
     }
     count
 }

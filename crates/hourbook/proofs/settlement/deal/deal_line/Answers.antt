@@ -1,6 +1,7 @@
-use Rattle.std.proofs.Common.{◌≡◌, ℕ, ◌∷◌, List, ℤ, pos, length, map, replicate, take, nat_abs, vec_items, refl, ap, ◌∙◌, arith, rules}
+use Rattle.std.proofs.Common.{◌≡◌, ℕ, ◌∷◌, List, ℤ, pos, length, map, replicate, take, nat_abs, vec_items, refl, ap, ◌∙◌, arith, rules, w64, to_z, of_z}
 use Rattle.std.specs.Iterator.Adapters.{zip_first, zip_second}
 use Rattle.std.specs.Slice.Iter.{iter_rest}
+use Rattle.std.proofs.lemmas.Int.{ints, to_z-of_z}
 use Rattle.std.proofs.lemmas.List.{length-map}
 use Rattle.sharing.specs.Shares.{shares}
 use Rattle.sharing.specs.Writes.{written}
@@ -9,7 +10,7 @@ use Rattle.sharing.proofs.Cells.{cells_plain, accepted_memory}
 use Rattle.hourbook.specs.declared.hourfile.owned_leg.OwnedLeg.{OwnedLeg}
 use Rattle.hourbook.specs.Deals.{leg_deal}
 use Rattle.hourbook.specs.Legs.{contributions}
-use Rattle.hourbook.proofs.Dealing.{some_rows, dealing_start, dealing_room, dealing_next}
+use Rattle.hourbook.proofs.Dealing.{some_rows, dealing_start, dealing_small, dealing_room, dealing_next}
 use Rattle.hourbook.proofs.Parts.{front, abs_all}
 use Rattle.hourbook.proofs.settlement.deal.deal_line.Goals as goal
 
@@ -22,40 +23,47 @@ unfolding parts_of
 loop-leg-init c =
     let line = c.args.line.now in
     let legs = vec_items line.legs in
-    let ss = shares c.args.amount (contributions legs) in
+    let ss = shares c.args.amount.cents (contributions legs) in
     let left = c.into_iter-leg-iterator.result in
     let n = length-map legs (λ r. r.contribution) in
-    let m = length-shares c.args.amount (contributions legs) in
+    let m = length-shares c.args.amount.cents (contributions legs) in
     let s = some_rows (contributions legs) line.some in
-    let a = adds c.args.amount (contributions legs) s in
+    let a = adds c.args.amount.cents (contributions legs) s in
     let e = c.deref.ensures.value in
-    let memory : c.share.new.out ≡ written (replicate 64 (pos 0)) 0 (map pos ss) =
-    accepted_memory (λ (l : OwnedLeg). l.contribution) (λ _ s. pos s) c.args.amount legs (replicate 64 (pos 0)) _ 0 c.share.result (rw e at c.share.ensures.answer) (rw e at c.share.ensures.memory) c.requires.small line.light (omega arith) (omega arith)
-    ∙ ap (written (replicate 64 (pos 0)) 0) (cells_plain legs ss (omega arith)) in
+    let memory : c.share_amount.new.out ≡ written (replicate 64 (pos 0)) 0 (map pos ss) =
+    rw e at c.share_amount.ensures ∙ ap (written (replicate 64 (pos 0)) 0) (cells_plain legs ss (omega arith)) in
     let first : iter_rest (zip_first left) ≡ legs = search rules in
-    let second : iter_rest (zip_second left) ≡ c.share.new.out = search rules in
+    let second : iter_rest (zip_second left) ≡ c.share_amount.new.out = search rules in
     let long : length (map pos ss) ≡ length legs = length-map ss pos ∙ omega arith in
     let parts : parts_of (iter_rest (zip_first left)) (iter_rest (zip_second left)) ≡ ss =
     ap (λ l. parts_of l (iter_rest (zip_second left))) first
     ∙ (ap (parts_of legs) (second ∙ memory)
     ∙ (ap (map nat_abs) (front (replicate 64 (pos 0)) (map pos ss) (length legs) long)
     ∙ abs_all ss)) in
-    rw (parts, first) (dealing_start (leg_deal c.args.origin line.number) _ _ ss legs (omega arith) (omega arith) refl c.requires.room)
+    rw (parts, first) (dealing_start (leg_deal c.args.origin line.number) _ _ ss legs (omega arith) (omega arith) refl c.requires)
 
 -- what is left of the parts, after the one at hand
 part_more : (legs legs_left : List OwnedLeg) (parts parts_left : List ℤ) (leg : OwnedLeg) (part : ℤ) → legs ≡ leg ∷ legs_left → parts ≡ part ∷ parts_left → parts_of legs parts ≡ nat_abs part ∷ parts_of legs_left parts_left
 unfolding parts_of
 part_more legs legs_left parts parts_left leg part first second = ap (λ l. parts_of l parts) first ∙ ap (parts_of (leg ∷ legs_left)) second
 
-pub deal_leg-count-requires-clause-room : goal.deal_leg-count-requires-clause-room
+pub amount_of-requires : goal.amount_of-requires
 unfolding parts_of
-deal_leg-count-requires-clause-room c =
+amount_of-requires c =
     let left = c.in-Some.ensures.steps in
-    dealing_room _ _ _ c.unsigned_abs.result _ _ _ _ _ _ _ _ c.loop-leg.invariant left.0 (part_more _ _ _ _ _ _ left.0 left.1) (search rules)
+    let small = dealing_small _ _ _ (nat_abs c.in-Some.part.now) _ _ _ _ _ _ _ _ c.loop-leg.invariant left.0 (part_more _ _ _ _ _ _ left.0 left.1) refl in
+    let same : to_z w64 (of_z w64 c.in-Some.part.now) ≡ c.in-Some.part.now = to_z-of_z w64 c.in-Some.part.now (omega (arith, ints)) in
+    rw same small
+
+pub deal_leg-count-requires : goal.deal_leg-count-requires
+unfolding parts_of
+deal_leg-count-requires c =
+    let left = c.in-Some.ensures.steps in
+    dealing_room _ _ _ c.amount_of.result.cents _ _ _ _ _ _ _ _ c.loop-leg.invariant left.0 (part_more _ _ _ _ _ _ left.0 left.1) (search rules)
 
 pub loop-leg-preserved : goal.loop-leg-preserved
 unfolding parts_of
 loop-leg-preserved c =
     let left = c.in-Some.ensures.steps in
     let said = c.deal_leg-count.ensures in
-    dealing_next _ _ _ c.unsigned_abs.result _ _ _ _ _ _ _ _ c.loop-leg.invariant left.0 (part_more _ _ _ _ _ _ left.0 left.1) (search rules) c.deal_leg-count.result c.deal_leg-count.new.out said.count said.memory
+    dealing_next _ _ _ c.amount_of.result.cents _ _ _ _ _ _ _ _ c.loop-leg.invariant left.0 (part_more _ _ _ _ _ _ left.0 left.1) (search rules) c.deal_leg-count.result c.deal_leg-count.new.out said.count said.memory

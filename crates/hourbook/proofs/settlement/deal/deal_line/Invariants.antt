@@ -10,4 +10,4 @@ abbrev pub invariant-loop-leg : goal.invariant-loop-leg
 invariant-loop-leg l =
     let legs = iter_rest (zip_first l.leg-iterator) in
     let parts = take (length legs) (iter_rest (zip_second l.leg-iterator)) in
-    Dealing (leg_deal l.origin l.line.number) (map nat_abs parts) legs l.initial.out (line_deal l.origin l.amount l.line) l.count l.out
+    Dealing (leg_deal l.origin l.line.number) (map nat_abs parts) legs l.initial.out (line_deal l.origin l.fn.amount.cents l.line) l.count l.out

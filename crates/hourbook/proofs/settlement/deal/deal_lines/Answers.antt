@@ -7,7 +7,7 @@ pub loop-line-preserved : goal.loop-line-preserved
 loop-line-preserved c =
     let left = c.in-Some.ensures.steps in
     let said = c.deal_line-count.ensures in
-    dealing_next _ _ _ c.unsigned_abs.result _ _ _ _ _ _ _ _ c.loop-line.invariant left.0 (ap (map nat_abs) left.1) (search rules) c.deal_line-count.result c.deal_line-count.new.out said.count said.memory
+    dealing_next _ _ _ c.amount_of.result.cents _ _ _ _ _ _ _ _ c.loop-line.invariant left.0 (ap (map nat_abs) left.1) (search rules) c.deal_line-count.result c.deal_line-count.new.out said.count said.memory
 
 pub returns : goal.returns
 returns c =
