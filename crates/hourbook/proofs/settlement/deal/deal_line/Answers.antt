@@ -2,16 +2,16 @@ use Rattle.std.proofs.Common.{◌≡◌, ℕ, ◌∷◌, List, ℤ, pos, length,
 use Rattle.std.specs.Iterator.Adapters.{zip_first, zip_second}
 use Rattle.std.specs.Slice.Iter.{iter_rest}
 use Rattle.std.proofs.lemmas.Int.{ints, to_z-of_z}
-use Rattle.std.proofs.lemmas.List.{length-map}
+use Rattle.std.proofs.lemmas.List.{length-map, take_at}
 use Rattle.sharing.specs.Shares.{shares}
 use Rattle.sharing.specs.Writes.{written}
 use Rattle.sharing.proofs.Lawful.{adds, length-shares}
-use Rattle.sharing.proofs.Cells.{cells_plain, accepted_memory}
+use Rattle.sharing.proofs.Cells.{cells_plain}
 use Rattle.hourbook.specs.declared.hourfile.owned_leg.OwnedLeg.{OwnedLeg}
 use Rattle.hourbook.specs.Deals.{leg_deal}
 use Rattle.hourbook.specs.Legs.{contributions}
 use Rattle.hourbook.proofs.Dealing.{some_rows, dealing_start, dealing_small, dealing_room, dealing_next}
-use Rattle.hourbook.proofs.Parts.{front, abs_all}
+use Rattle.hourbook.proofs.Parts.{abs_all}
 use Rattle.hourbook.proofs.settlement.deal.deal_line.Goals as goal
 
 -- what of the parts is read for these legs
@@ -38,7 +38,7 @@ loop-leg-init c =
     let parts : parts_of (iter_rest (zip_first left)) (iter_rest (zip_second left)) ≡ ss =
     ap (λ l. parts_of l (iter_rest (zip_second left))) first
     ∙ (ap (parts_of legs) (second ∙ memory)
-    ∙ (ap (map nat_abs) (front (replicate 64 (pos 0)) (map pos ss) (length legs) long)
+    ∙ (ap (map nat_abs) (take_at (map pos ss) _ (length legs) long)
     ∙ abs_all ss)) in
     rw (parts, first) (dealing_start (leg_deal c.args.origin line.number) _ _ ss legs (omega arith) (omega arith) refl c.requires)
 
