@@ -1,3 +1,4 @@
+pub mod Rest
 pub mod Dealing
 pub mod Adding
 pub mod Nths

@@ -175,6 +175,8 @@ mod tests {
         };
         let notice = fault.notice();
         assert_eq!(rt; (notice.number, notice.place), (8, 0));
+        let line = format!(in rt.alloc(); "{fault}")?;
+        assert_eq!(rt; line.as_str(), "R 8 0");
         let flow_based =
             b"H\x00\x00\x00\x07\x01\x01Z\x00\x00\x03\xe8\x00\x00\x00\x00L\x01\x00\x01O\x01\x01\x27\x10E";
         assert_eq!(rt;

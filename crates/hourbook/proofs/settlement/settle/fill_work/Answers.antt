@@ -8,7 +8,7 @@ use Rattle.hourbook.specs.LineRows.{line_rows_from}
 use Rattle.sharing.proofs.Cells.{cells_plain}
 use Rattle.sharing.proofs.Lawful.{length-shares}
 use Rattle.hourbook.proofs.LineRowed.{length_rows, rows_weigh}
-use Rattle.hourbook.proofs.Dealing.{written_rest}
+use Rattle.hourbook.proofs.Rest.{written_rest}
 use Rattle.hourbook.proofs.Parts.{both}
 use Rattle.hourbook.proofs.settlement.settle.fill_work.Given as given
 use Rattle.hourbook.proofs.settlement.settle.fill_work.Goals as goal
