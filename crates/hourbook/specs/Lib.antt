@@ -30,6 +30,8 @@ pub mod Tallies
 pub mod Amounts
 pub mod Text
 pub mod Wrote
+pub mod Sinks
+pub mod SinkModels
 pub mod Statements
 pub mod StatementAnswers
 pub mod BookFaults

@@ -8,6 +8,7 @@ pub(crate) mod open;
 pub(crate) mod post;
 pub(crate) mod settle;
 mod settled;
+mod sink;
 mod standing;
 pub(crate) mod state;
 mod statement;

@@ -5,7 +5,7 @@ ghost use Rattle.hourbook.specs.StatementAnswers.{text, over};
 
 use crate::book::RestingBook;
 use crate::book::fault::BookFault;
-use crate::book::statement::{balance, measured, put_text};
+use crate::book::statement::Statement;
 use crate::entry::row::Row;
 
 impl RestingBook {
@@ -28,11 +28,10 @@ impl RestingBook {
         if owner < 1 || owner > 64 {
             return Err(BookFault::Owner);
         }
-        let counting = &memory[..used];
-        let sum = balance(counting, owner);
-        match measured(counting, owner, sum, out.len()) {
-            None => Err(BookFault::Statement),
-            Some(_) => Ok(put_text(out, counting, owner, sum)),
+        let statement = Statement::of(&memory[..used], owner);
+        if out.len() < statement.len() {
+            return Err(BookFault::Statement);
         }
+        Ok(statement.write(out))
     }
 }
