@@ -1,4 +1,3 @@
-pub mod Having
 pub mod Dealing
 pub mod Adding
 pub mod Nths
@@ -18,3 +17,4 @@ pub mod Sequences
 pub mod NamingOn
 pub mod Summing
 pub mod Forming
+pub mod Counted

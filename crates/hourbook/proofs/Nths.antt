@@ -1,10 +1,8 @@
 -- The k-th of mapped and paired lists. Assumes nothing.
 use Rattle.std.proofs.Common.{◌≡◌, ℕ, zero, suc, ◌-◌, ◌<◌, ◌≤◌, List, [], ◌∷◌, map, length, get_or, ℤ, pos, Some, None, sym, refl, ap, ◌∙◌, arith}
 use Rattle.std.specs.List.{slice_get}
-use Rattle.hourbook.specs.declared.hourfile.price.Price.{Price}
-use Rattle.hourbook.specs.declared.hourfile.position.NetPosition.{NetPosition}
 use Rattle.std.proofs.lemmas.List.{get_or-map, get_or_past, length-map}
-use Rattle.hourbook.specs.Tables.{cents_of, tenths_of, price_at}
+use Rattle.hourbook.specs.Tables.{Price, NetPosition, cents_of, tenths_of, price_at}
 use Rattle.hourbook.specs.Coordinated.{zones_of}
 
 pub nth-map_at : {X Y : Type 0} (f : X → Y) (xs : List X) (k : ℕ) (x : X) → k < length xs → x ≡ get_or xs k x → slice_get (map f xs) k ≡ Some (f x)
@@ -18,10 +16,10 @@ nth-map_past f (x ∷ xs) zero h = absurd (omega arith)
 nth-map_past f (x ∷ xs) (suc k) h = nth-map_past f xs k (omega arith)
 
 pub zones_at : (ps : List Price) (ns : List NetPosition) (k : ℕ) (p : Price) (n : NetPosition) → k < length ps → k < length ns → p ≡ get_or ps k p → n ≡ get_or ns k n
-    → slice_get (zones_of (cents_of ps) (tenths_of ns)) k ≡ Some (record { price = p.cents; position = n.tenths })
+    → slice_get (zones_of (cents_of ps) (tenths_of ns)) k ≡ Some (record { price = p.value; position = n.value })
 zones_at [] ns k p n h i e f = absurd (omega arith)
 zones_at (q ∷ ps) [] k p n h i e f = absurd (omega arith)
-zones_at (q ∷ ps) (m ∷ ns) zero p n h i e f = ap (λ (z : Price). Some (record { price = z.cents; position = m.tenths })) (sym e) ∙ ap (λ (z : NetPosition). Some (record { price = p.cents; position = z.tenths })) (sym f)
+zones_at (q ∷ ps) (m ∷ ns) zero p n h i e f = ap (λ (z : Price). Some (record { price = z.value; position = m.value })) (sym e) ∙ ap (λ (z : NetPosition). Some (record { price = p.value; position = z.value })) (sym f)
 zones_at (q ∷ ps) (m ∷ ns) (suc k) p n h i e f = zones_at ps ns k p n (omega arith) (omega arith) e f
 
 pub zones_past_prices : (ps ns : List ℤ) (k : ℕ) → length ps ≤ k → slice_get (zones_of ps ns) k ≡ None
@@ -45,13 +43,13 @@ zones_length (p ∷ ps) (n ∷ ns) h = ap suc (zones_length ps ns (omega arith))
 
 -- the price of a zone is read at the place before its number
 module _ (xs ps : List Price) (k zone : ℕ) (same : xs ≡ ps) (place : k ≡ zone - 1) where
-  pub price_read : (p : Price) → k < length xs → p ≡ get_or xs k p → p.cents ≡ price_at (cents_of ps) zone
+  pub price_read : (p : Price) → k < length xs → p ≡ get_or xs k p → p.value ≡ price_at (cents_of ps) zone
   price_read p h read =
-      ap (λ (q : Price). q.cents) read
-      ∙ (sym (get_or-map (λ (q : Price). q.cents) xs k p (pos 0) h)
+      ap (λ (q : Price). q.value) read
+      ∙ (sym (get_or-map (λ (q : Price). q.value) xs k p (pos 0) h)
       ∙ (ap (λ n. get_or (cents_of xs) n (pos 0)) place ∙ ap (λ l. price_at (cents_of l) zone) same))
 
   pub price_none : length xs ≤ k → pos 0 ≡ price_at (cents_of ps) zone
   price_none h =
-      sym (get_or_past (cents_of xs) k (pos 0) (omega (arith, length-map xs (λ (q : Price). q.cents))))
+      sym (get_or_past (cents_of xs) k (pos 0) (omega (arith, length-map xs (λ (q : Price). q.value))))
       ∙ (ap (λ n. get_or (cents_of xs) n (pos 0)) place ∙ ap (λ l. price_at (cents_of l) zone) same)

@@ -12,7 +12,7 @@ only end zone z = cond (end == zone) z (pos 0)
 
 -- the capacity of a border that leaves the zone, less what enters it
 abbrev pub at_zone : ℕ → Border → ℤ
-at_zone zone b = only b.near zone b.capacity -ℤ only b.far zone b.capacity
+at_zone zone b = only b.near zone b.capacity.value -ℤ only b.far zone b.capacity.value
 
 -- all capacities that leave the zone, less those that enter it
 abbrev pub net_capacity : ℕ → List Border → ℤ

@@ -19,7 +19,7 @@ abbrev pub border_line : List ℤ → Border → Line
 border_line ps b = record {
   near = b.near;
   far = End.Zone b.far;
-  flow = b.capacity *ℤ pos 10000;
+  flow = b.capacity.value *ℤ pos 10000;
   near_price = price_at ps b.near;
   far_price = price_at ps b.far;
   spread = price_at ps b.far -ℤ price_at ps b.near;

@@ -5,14 +5,12 @@ use Rattle.std.specs.List.{slice_get}
 use Rattle.std.proofs.lemmas.List.{length-map}
 use Rattle.std.proofs.lemmas.Int.{ints}
 use Rattle.hourbook.specs.declared.hourfile.border.Border.{Border}
-use Rattle.hourbook.specs.declared.hourfile.price.Price.{Price}
-use Rattle.hourbook.specs.declared.hourfile.position.NetPosition.{NetPosition}
 use Rattle.hourbook.specs.declared.hourfile.network.Network.{Network}
 use Rattle.hourbook.specs.declared.hourfile.prices.Prices.{Prices}
 use Rattle.hourbook.specs.declared.region.rows.Zone as zone
 use Rattle.hourbook.specs.declared.region.rows.Line.{Line}
 use Rattle.hourbook.specs.declared.region.fault.Flaw.{Flaw}
-use Rattle.hourbook.specs.Tables.{cents_of, tenths_of}
+use Rattle.hourbook.specs.Tables.{Price, NetPosition, cents_of, tenths_of}
 use Rattle.hourbook.specs.Meaning.{Bounded, ZoneBounded, LineBounded, Toward}
 use Rattle.hourbook.specs.Coordinated.{zones_of, border_line, coordinated_means}
 
@@ -27,7 +25,7 @@ toward_self (negsuc n) = (omega (arith, ints), omega (arith, ints))
 
 line_bounded : (ps : List Price) (b : Border) → LineBounded (border_line (cents_of ps) b)
 line_bounded ps b =
-    let small = b.bounded in
+    let small = b.capacity.bounded in
     record {
       near = cents_small ps (b.near - 1);
       far = cents_small ps (b.far - 1);
@@ -44,7 +42,7 @@ each_zone : (ps : List Price) (ns : List NetPosition) (k : ℕ) (z : zone.Zone) 
 each_zone [] ns k z e = let q : ◌≡◌ {A = ℕ} 0 1 = cc in absurd (omega arith)
 each_zone (p ∷ ps) [] k z e = let q : ◌≡◌ {A = ℕ} 0 1 = cc in absurd (omega arith)
 each_zone (p ∷ ps) (n ∷ ns) zero z e =
-    let here : zone.Zone = record { price = p.cents; position = n.tenths } in
+    let here : zone.Zone = record { price = p.value; position = n.value } in
     let same : here ≡ z = cc in
     subst ZoneBounded same (record { price = p.bounded; position = n.bounded })
 each_zone (p ∷ ps) (n ∷ ns) (suc k) z e = each_zone ps ns k z e
@@ -58,7 +56,7 @@ pub coordinated_bounded : (network : Network) (prices : Prices) (flaw : Option F
 coordinated_bounded network prices None =
     let ps : List Price = vec_items prices.list in
     let ns : List NetPosition = vec_items network.positions in
-    let f : NetPosition → ℤ = λ n. n.tenths in
+    let f : NetPosition → ℤ = λ n. n.value in
     let p = network.few_zones in
     let q = network.few_borders in
     record {

@@ -19,7 +19,7 @@ pub record Sorted : Type 0 where
   pub owners : List OwnerRecord
 
 abbrev pub border_said : border.Border → BorderRecord
-border_said b = record { near = b.near; far = b.far; capacity = b.capacity }
+border_said b = record { near = b.near; far = b.far; capacity = b.capacity.value }
 
 abbrev pub said : Gathered → Sorted
 said g = record {

@@ -1,13 +1,19 @@
 -- The numbers in the tables of a region.
 use Rattle.std.specs.Prelude.{ℕ, ◌-◌, List, map, ℤ, pos, slice_index_or}
-use Rattle.hourbook.specs.declared.hourfile.price.Price.{Price}
-use Rattle.hourbook.specs.declared.hourfile.position.NetPosition.{NetPosition}
+use Rattle.hourbook.specs.declared.within.Within.{Within}
+
+-- in cents per MWh, and in tenths of a MW
+abbrev pub Price : Type 0
+Price = Within 500000
+
+abbrev pub NetPosition : Type 0
+NetPosition = Within 1000000
 
 abbrev pub cents_of : List Price → List ℤ
-cents_of ps = map (λ (p : Price). p.cents) ps
+cents_of ps = map (λ (p : Price). p.value) ps
 
 abbrev pub tenths_of : List NetPosition → List ℤ
-tenths_of ns = map (λ (n : NetPosition). n.tenths) ns
+tenths_of ns = map (λ (n : NetPosition). n.value) ns
 
 -- the price of a zone by its number, which counts from 1
 abbrev pub price_at : List ℤ → ℕ → ℤ

@@ -7,6 +7,7 @@ mod hour;
 mod hourfile;
 mod region;
 mod settlement;
+mod within;
 
 use anyhow::anyhow;
 use hour::{Failure, statements};

@@ -5,7 +5,7 @@ ghost use Rattle.hourbook.specs.Naming.{census_lines};
 ghost use Rattle.hourbook.specs.SortedRecords.{plus, said, unsorted};
 ghost use Rattle.hourbook.specs.declared.hourfile.«record».Record.TheVariants.{Zone, Border as RecordBorder, Leg, Loss};
 
-use crate::hourfile::border::Border;
+use crate::hourfile::border::{Border, Capacity};
 use crate::hourfile::census::Census;
 use crate::hourfile::fault::FileFault;
 use crate::hourfile::position::NetPosition;
@@ -85,12 +85,10 @@ impl Gathered {
     fn take_zone(&mut self, zone: ZoneRecord, place: usize) -> Result<(), FileFault>
         ensures { OnOk result (said self.new ≡ plus (said self.old) (Zone zone)) }
     {
-        let Some(price) = Price::of(zone.price) else {
-            return Err(FileFault::Range { place });
-        };
-        let Some(position) = NetPosition::of(zone.position) else {
-            return Err(FileFault::Range { place });
-        };
+        let price = Price::try_from(zone.price).map_err(|_| FileFault::Range { place })?;
+        let position = NetPosition::try_from(zone.position).map_err(|_| FileFault::Range {
+            place,
+        })?;
         self.prices.push(price)?;
         self.positions.push(position)?;
         Ok(())
@@ -99,10 +97,17 @@ impl Gathered {
     fn take_border(&mut self, record: BorderRecord, place: usize) -> Result<(), FileFault>
         ensures { OnOk result (said self.new ≡ plus (said self.old) (RecordBorder «record»)) }
     {
-        let Some(border) = Border::of(record.near, record.far, record.capacity) else {
-            return Err(FileFault::Range { place });
-        };
-        self.borders.push(border)?;
+        let BorderRecord {
+            near,
+            far,
+            capacity,
+        } = record;
+        let capacity = Capacity::try_from(capacity).map_err(|_| FileFault::Range { place })?;
+        self.borders.push(Border {
+            near,
+            far,
+            capacity,
+        })?;
         Ok(())
     }
 

@@ -2,7 +2,7 @@
 ghost use Rattle.std.specs.Prelude.{Decides};
 ghost use Rattle.hourbook.specs.Lawful.{CapacityInRange, InRange};
 
-use crate::hourfile::border::Border;
+use crate::hourfile::border::Capacity;
 use crate::hourfile::method::Method;
 use crate::hourfile::position::NetPosition;
 use crate::hourfile::price::Price;
@@ -31,7 +31,7 @@ impl Record {
                     && header.method().is_some()
             }
             Record::Zone(zone) => {
-                Price::of(zone.price).is_some() && NetPosition::of(zone.position).is_some()
+                Price::try_from(zone.price).is_ok() && NetPosition::try_from(zone.position).is_ok()
             }
             Record::Border(border) => border.in_range(method),
             Record::Factor(factor) => {
@@ -53,7 +53,7 @@ impl BorderRecord {
     {
         match method {
             Method::FlowBased => self.capacity == 0,
-            Method::Coordinated => Border::of(self.near, self.far, self.capacity).is_some(),
+            Method::Coordinated => Capacity::try_from(self.capacity).is_ok(),
         }
     }
 }

@@ -29,8 +29,8 @@ fn capacity_at(border: &Border, zone: usize) -> i64
     ensures value { result ≡ at_zone zone border.now }
     ensures bound { unsigned_abs result ≤ 400000 }
 {
-    let capacity = border.capacity();
-    capacity_in(border.near(), zone, capacity) - capacity_in(border.far(), zone, capacity)
+    let capacity = border.capacity.get();
+    capacity_in(border.near, zone, capacity) - capacity_in(border.far, zone, capacity)
 }
 
 // What all capacities take out of a zone.
@@ -51,7 +51,7 @@ fn position_sum(positions: &[NetPosition]) -> i64
 {
     let mut sum: i64 = 0;
     for k in 0..positions.len() {
-        sum += i64::from(positions[k].tenths());
+        sum += i64::from(positions[k].get());
     }
     sum
 }
@@ -62,7 +62,7 @@ fn position_size(positions: &[NetPosition]) -> u64
 {
     let mut sum: u64 = 0;
     for k in 0..positions.len() {
-        sum += u64::from(positions[k].tenths().unsigned_abs());
+        sum += u64::from(positions[k].get().unsigned_abs());
     }
     sum
 }
@@ -70,9 +70,9 @@ fn position_size(positions: &[NetPosition]) -> u64
 // Whether a net position is what the capacities take out of its zone.
 fn is_met(position: &NetPosition, borders: &[Border], zone: usize) -> bool
     requires { length borders.now ≤ 48 }
-    ensures { Decides result (position.now.tenths ≡ net_capacity zone borders.now) }
+    ensures { Decides result (position.now.value ≡ net_capacity zone borders.now) }
 {
-    i64::from(position.tenths()) == capacity_out(borders, zone)
+    i64::from(position.get()) == capacity_out(borders, zone)
 }
 
 // Whether net positions add to 0, and each is what the capacities take out of its zone.

@@ -48,12 +48,12 @@ impl<'a> Coordinated<'a> {
 fn line_of(prices: &Prices, border: &Border) -> Line
     ensures { result ≡ border_line (cents_of prices.now.list.items) border.now }
 {
-    let near_price = prices.at(border.near());
-    let far_price = prices.at(border.far());
+    let near_price = prices.at(border.near);
+    let far_price = prices.at(border.far);
     Line {
-        near: border.near(),
-        far: LineEnd::Zone(border.far()),
-        flow: i64::from(border.capacity()) * 10_000,
+        near: border.near,
+        far: LineEnd::Zone(border.far),
+        flow: i64::from(border.capacity.get()) * 10_000,
         near_price,
         far_price,
         spread: far_price - near_price,
@@ -82,8 +82,8 @@ fn zone_at(prices: &[Price], positions: &[NetPosition], k: usize) -> Option<Zone
         return None;
     }
     Some(Zone {
-        price: prices[k].cents(),
-        position: positions[k].tenths(),
+        price: prices[k].get(),
+        position: positions[k].get(),
     })
 }
 

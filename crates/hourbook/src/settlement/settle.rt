@@ -51,7 +51,7 @@ pub(crate) fn entries_needed(income: i64, table: &Ownership) -> usize
     if income < 0 {
         table.owners.len()
     } else {
-        table.rows
+        table.row_count()
     }
 }
 
