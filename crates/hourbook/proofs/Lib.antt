@@ -9,7 +9,6 @@ pub mod Parts
 pub mod Sinking
 pub mod Owns
 pub mod Stands
-pub mod BitLaws
 pub mod Kept
 pub mod Collect
 pub mod Passing

@@ -4,6 +4,7 @@ ghost use Rattle.hourbook.specs.Calls.{statement_judged};
 ghost use Rattle.hourbook.specs.StatementAnswers.{text, over};
 
 use crate::book::RestingBook;
+use crate::book::entries::entries;
 use crate::book::fault::BookFault;
 use crate::book::statement::Statement;
 use crate::entry::row::Row;
@@ -21,14 +22,11 @@ impl RestingBook {
         ensures within { IfOk result (λ n. n ≤ length out.new) }
         ensures memory { out.new ≡ (if is_ok result then over (text owner self.now.used memory.now) out.old else out.old) }
     {
-        let used = self.used as usize;
-        if memory.len() < used {
-            return Err(BookFault::Entries);
-        }
+        let entries = entries(memory, self.used)?;
         if owner < 1 || owner > 64 {
             return Err(BookFault::Owner);
         }
-        let statement = Statement::of(&memory[..used], owner);
+        let statement = Statement::of(entries, owner);
         if out.len() < statement.len() {
             return Err(BookFault::Statement);
         }
