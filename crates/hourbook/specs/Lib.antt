@@ -28,6 +28,7 @@ pub mod Order
 pub mod Sums
 pub mod Tallies
 pub mod Amounts
+pub mod Entries
 pub mod Text
 pub mod Wrote
 pub mod Sinks

@@ -7,11 +7,9 @@ use crate::entry::row::Row;
 
 // The first `used` places of memory, where it has so many.
 pub(crate) fn entries(memory: &[Row], used: u32) -> Result<&[Row], BookFault>
-    ensures {
-        MatchResult result
+    ensures { MatchResult result
         (λ es. (used ≤ length memory.now) × (es.now ≡ take used memory.now))
-        (λ fault. (length memory.now < used) × (fault ≡ Entries))
-    }
+        (λ fault. (length memory.now < used) × (fault ≡ Entries)) }
 {
     memory.get(..used as usize).ok_or(BookFault::Entries)
 }

@@ -1,34 +1,12 @@
 //! An owner's statement.
-ghost use Rattle.std.specs.Prelude.{◌≡◌, ◌^◌, ◌-◌, ◌≤◌, min, length, unsigned_abs};
-ghost use Rattle.hourbook.specs.Amounts.{read_amount};
+ghost use Rattle.std.specs.Prelude.{◌≡◌, ◌^◌, ◌-◌, ◌≤◌, min, length};
 ghost use Rattle.hourbook.specs.Wrote.{Wrote};
-ghost use Rattle.hourbook.specs.Statements.{fields, balance_of, own, statement_of};
+ghost use Rattle.hourbook.specs.Statements.{balance_of, own, statement_of};
 
 use crate::book::sink::{Count, Page, Sink};
 use crate::book::text::put_line;
 use crate::entry::entry::Entry;
 use crate::entry::row::Row;
-
-// The amount that an entry is read as.
-fn amount(e: &Row) -> i64
-    ensures value { result ≡ read_amount e.now.amount }
-    ensures bound { unsigned_abs result ≤ 2000000000 }
-{
-    i64::from(Entry::of(e).amount)
-}
-
-// The numbers of an entry's line.
-fn shown(e: &Row) -> [i64; 5]
-    ensures { result ≡ fields e.now }
-{
-    [
-        i64::from(e.hour),
-        i64::from(e.region),
-        i64::from(e.line),
-        i64::from(e.leg),
-        amount(e),
-    ]
-}
 
 // What the owner's entries add to.
 fn balance(entries: &[Row], owner: u8) -> i64
@@ -36,9 +14,10 @@ fn balance(entries: &[Row], owner: u8) -> i64
     ensures { result ≡ balance_of (own owner entries.now) }
 {
     let mut sum: i64 = 0;
-    for e in entries {
-        if e.owner == owner {
-            sum += amount(e);
+    for row in entries {
+        let entry = Entry::from(row);
+        if entry.owner == owner {
+            sum += i64::from(entry.amount.get());
         }
     }
     sum
@@ -72,9 +51,10 @@ impl<'a> Statement<'a> {
         ensures { S.took sink.old (statement_of self.now.owner (own self.now.owner self.now.entries.now)) sink.new }
     {
         put_line(sink, b'O', &[i64::from(self.owner)]);
-        for entry in self.entries {
+        for row in self.entries {
+            let entry = Entry::from(row);
             if entry.owner == self.owner {
-                put_line(sink, entry.kind.letter(), &shown(entry));
+                put_line(sink, entry.kind.letter(), &entry.numbers());
             }
         }
         put_line(sink, b'B', &[self.balance]);

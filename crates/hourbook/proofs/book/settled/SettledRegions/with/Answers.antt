@@ -1,4 +1,4 @@
-use Rattle.std.proofs.Common.{◌≡◌, ◌≢◌, ℕ, refl, ◌-◌, ◌*◌, ◌%◌, ◌^◌, ◌≤◌, ◌||◌, eqb, bit_or, w32, ap, inl, inr, arith, ◌∙◌, sym}
+use Rattle.std.proofs.Common.{◌≡◌, ◌≢◌, ℕ, refl, ◌-◌, ◌*◌, ◌%◌, ◌^◌, ◌≤◌, ◌||◌, eqb, bit_or, w32, ap, inl, inr, arith}
 use Rattle.std.proofs.lemmas.Bool.{cases_eq, eq-eqb, ne_eqb}
 use Rattle.std.proofs.lemmas.Nat.Bits.{bit_at_set_same, bit_at_set_other}
 use Rattle.hourbook.specs.SettledIn.{settled_in}
