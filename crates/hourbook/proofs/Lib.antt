@@ -6,11 +6,9 @@ pub mod Facts
 pub mod LineRowed
 pub mod Spreads
 pub mod Parts
-pub mod Decimal
-pub mod Texts
+pub mod Sinking
 pub mod Owns
 pub mod Stands
-pub mod BitLaws
 pub mod Kept
 pub mod Collect
 pub mod Passing
