@@ -17,3 +17,4 @@ pub mod NamingOn
 pub mod Summing
 pub mod Forming
 pub mod Counted
+pub mod TryCollected

@@ -14,6 +14,7 @@ pub(crate) mod owned_leg;
 pub(crate) mod owned_line;
 pub(crate) mod owner;
 pub(crate) mod ownership;
+pub(crate) mod owning;
 pub(crate) mod position;
 pub(crate) mod price;
 pub(crate) mod prices;
