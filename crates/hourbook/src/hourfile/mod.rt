@@ -25,5 +25,6 @@ pub(crate) mod read;
 pub(crate) mod record;
 pub(crate) mod records;
 pub(crate) mod rising;
+pub(crate) mod rule;
 pub(crate) mod sums;
 pub(crate) mod tally;
