@@ -27,11 +27,8 @@ use crate::hourfile::ranges::Ranges;
 use crate::hourfile::record::{Header, Record, first_record};
 use crate::hourfile::records::Records;
 use crate::hourfile::rule::follow;
-use crate::hourfile::sums::Sums;
 use crate::hourfile::tally::Tally;
-
-// What the owners' keys of a leg add to.
-const WHOLE: u16 = 10_000;
+use crate::hourfile::wholeness::{Contributions, Keys, add_up};
 
 // Allocates nothing, so that no fault is for want of memory.
 pub(crate) fn judge(bytes: &[u8]) -> Result<Census, FileFault>
@@ -130,28 +127,7 @@ fn contributions(bytes: &[u8], census: Census) -> Result<(), FileFault>
     ensures rule { MatchResult result (λ _. AllContribute bytes.now (census_lines census)) (NoneContributes bytes.now (census_lines census)) }
     ensures number { IfErr result (λ e. (number_of e ≡ 6) × Numbered (lines_of census.method census.zones census.borders) (place_of e)) }
 {
-    let sums = contribution_sums(bytes);
-    for line in 1..=census.lines() {
-        if sums.of(line) == 0 {
-            return Err(FileFault::Contribution {
-                line: line as usize,
-            });
-        }
-    }
-    Ok(())
-}
-
-fn contribution_sums(bytes: &[u8]) -> Sums
-    ensures { SumsOf contribution_to bytes.now result.amounts }
-{
-    let mut sums = Sums::new();
-    let mut records = Records::of(bytes);
-    while let Some(record) = records.next() {
-        if let Some(leg) = record.leg() {
-            sums.add(leg.line, leg.contribution);
-        }
-    }
-    sums
+    add_up::<Contributions>(bytes, census.lines())
 }
 
 // Every leg is owned whole.
@@ -159,26 +135,7 @@ fn keys(bytes: &[u8], census: Census) -> Result<(), FileFault>
     ensures rule { MatchResult result (λ _. AllOwned bytes.now census.legs) (NotOwned bytes.now census.legs) }
     ensures number { IfErr result (λ e. (number_of e ≡ 7) × Numbered census.legs (place_of e)) }
 {
-    let sums = key_sums(bytes);
-    for leg in 1..=census.legs {
-        if sums.of(leg) != WHOLE {
-            return Err(FileFault::Keys { leg: leg as usize });
-        }
-    }
-    Ok(())
-}
-
-fn key_sums(bytes: &[u8]) -> Sums
-    ensures { SumsOf key_to bytes.now result.amounts }
-{
-    let mut sums = Sums::new();
-    let mut records = Records::of(bytes);
-    while let Some(record) = records.next() {
-        if let Some(owner) = record.owner() {
-            sums.add(owner.leg, owner.key);
-        }
-    }
-    sums
+    add_up::<Keys>(bytes, census.legs)
 }
 
 #[cfg(test)]

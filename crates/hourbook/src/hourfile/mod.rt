@@ -28,3 +28,4 @@ pub(crate) mod rising;
 pub(crate) mod rule;
 pub(crate) mod sums;
 pub(crate) mod tally;
+pub(crate) mod wholeness;
