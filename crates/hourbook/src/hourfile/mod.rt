@@ -22,5 +22,7 @@ pub(crate) mod ranges;
 pub(crate) mod read;
 pub(crate) mod record;
 pub(crate) mod records;
+pub(crate) mod rule;
 pub(crate) mod sums;
 pub(crate) mod tally;
+pub(crate) mod wholeness;
