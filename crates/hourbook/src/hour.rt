@@ -141,6 +141,7 @@ fn pages(
     ensures { IfOk result (λ t. t.items ≡ flat_map (page_of book.now.used memory.now) owners.now) }
 {
     let mut text = Vec::new(heap);
+    // the book's calls write into lent memory
     let mut page = vec![in heap; 0u8; PAGE]?;
     for owner in owners {
         append_page(&mut text, book, memory, *owner, &mut page)?;

@@ -48,7 +48,6 @@ pub fill_work-requires : goal.fill_work-requires
 fill_work-requires g c =
     let acc = c.requires.accepted in
     record {
-      some = omega (arith, acc.lines, c.args.table.now.some);
       light = acc.light;
       room = acc.room;
     }
