@@ -1,9 +1,9 @@
 pub mod Having
-pub mod Dealing
 pub mod Adding
+pub mod Balancing
+pub mod Dealing
 pub mod Nths
 pub mod Lessened
-pub mod Facts
 pub mod LineRowed
 pub mod Spreads
 pub mod Parts

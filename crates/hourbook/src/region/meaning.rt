@@ -1,9 +1,10 @@
 //! What every region tells of itself.
-ghost use Rattle.std.specs.Prelude.{◌≡◌, length};
+ghost use Rattle.std.specs.Prelude.{◌≡◌, drop, length};
 ghost use Rattle.std.specs.List.{slice_get};
 ghost use Rattle.hourbook.specs.Meaning.{Meaning, Bounded};
 
 use crate::region::fault::Flaw;
+use crate::region::parts::Parts;
 use crate::region::rows::{Line, Zone};
 
 // A region is a verdict and, where it is sound, zones, lines and at most one hub price. Asking changes nothing.
@@ -11,9 +12,6 @@ use crate::region::rows::{Line, Zone};
 pub(crate) trait Region {
     // what the region stands for
     ghost meaning: { Self → Meaning };
-
-    // that its counts and numbers keep their limits
-    ghost bounded: { (x : Self) → Bounded (meaning x) };
 
     fn verdict(&self) -> Result<(), Flaw>
         ensures { result ≡ (meaning self.now).verdict };
@@ -32,4 +30,21 @@ pub(crate) trait Region {
 
     fn line(&self, k: usize) -> Option<Line>
         ensures { result ≡ slice_get (meaning self.now).lines k };
+
+    // that its counts and numbers keep their limits
+    ghost bounded: { (x : Self) → Bounded (meaning x) };
+
+    // All zones, in order.
+    final fn zones(&self) -> Parts<'_, Self, Zone>
+        ensures { drop result.next (meaning result.region.now).zones ≡ (meaning self.now).zones }
+    {
+        Parts::of(self)
+    }
+
+    // All lines, in order.
+    final fn lines(&self) -> Parts<'_, Self, Line>
+        ensures { drop result.next (meaning result.region.now).lines ≡ (meaning self.now).lines }
+    {
+        Parts::of(self)
+    }
 }

@@ -24,16 +24,16 @@ returns-in_err-text c =
     rw p.1 tt
 
 abbrev below_means : Coordinated → Meaning
-below_means b = coordinated_means (cents_of (vec_items b.prices.now.list)) (tenths_of (vec_items b.network.now.positions)) (vec_items b.network.now.borders) b.flaw
+below_means b = coordinated_means (cents_of (vec_items b.prices.now.list)) (tenths_of (vec_items b.network.now.positions)) (vec_items b.network.now.borders) b.verdict
 
 -- the layered region means what its tables say
 layered : (held below : Coordinated) (kept table : LossTable) (n : Network) (p : Prices) → held ≡ below → kept ≡ table → below.network.now ≡ n → below.prices.now ≡ p
-    → losses_means (vec_items kept.losses) (below_means held) ≡ losses_means (vec_items table.losses) (coordinated_means (cents_of (vec_items p.list)) (tenths_of (vec_items n.positions)) (vec_items n.borders) below.flaw)
+    → losses_means (vec_items kept.losses) (below_means held) ≡ losses_means (vec_items table.losses) (coordinated_means (cents_of (vec_items p.list)) (tenths_of (vec_items n.positions)) (vec_items n.borders) below.verdict)
 layered held below kept table n p e f g h =
     ap (λ t. losses_means (vec_items t.losses) (below_means held)) f
     ∙ (ap (λ b. losses_means (vec_items table.losses) (below_means b)) e
-    ∙ (ap (λ x. losses_means (vec_items table.losses) (coordinated_means (cents_of (vec_items x.list)) (tenths_of (vec_items below.network.now.positions)) (vec_items below.network.now.borders) below.flaw)) h
-    ∙ ap (λ x. losses_means (vec_items table.losses) (coordinated_means (cents_of (vec_items p.list)) (tenths_of (vec_items x.positions)) (vec_items x.borders) below.flaw)) g))
+    ∙ (ap (λ x. losses_means (vec_items table.losses) (coordinated_means (cents_of (vec_items x.list)) (tenths_of (vec_items below.network.now.positions)) (vec_items below.network.now.borders) below.verdict)) h
+    ∙ ap (λ x. losses_means (vec_items table.losses) (coordinated_means (cents_of (vec_items p.list)) (tenths_of (vec_items x.positions)) (vec_items x.borders) below.verdict)) g))
 
 pub returns : goal.returns
 returns c =
@@ -43,7 +43,7 @@ returns c =
     let long : length c.posted.new.memory ≡ vec_len c.in_ok-memory.memory = omega (arith, c.posted.auto.memory, c.deref_mut.ensures.len) in
     let back = with_items_is c.in_ok-memory.memory c.posted.new.memory long in
     record {
-      flaw = c.in-Some.below.flaw;
+      verdict = c.in-Some.below.verdict;
       judged = told.2;
       used = c.in_ok-book.book.used;
       before = c.deref_mut.result.now;

@@ -1,14 +1,9 @@
-use Rattle.std.proofs.Common.{vec_items, sym}
-use Rattle.hourbook.proofs.Lessened.{nth-lessen_none, nth-lessen_some}
+use Rattle.std.proofs.Common.{arith, rules}
+use Rattle.std.proofs.lemmas.Grind.{common_steps}
+use Rattle.hourbook.proofs.Lessened.{slice_get-lessen}
 use Rattle.hourbook.proofs.region.losses.LossesRegion.line.Goals as goal
 
-pub returns-in-None : goal.returns-in-None
-returns-in-None g c =
+pub returns : goal.returns
+returns g c =
     let s = c.args.self.now in
-    sym (nth-lessen_none (vec_items s.table.losses) (g.R.Region.meaning s.below).lines c.args.k (sym c.in-None.ensures))
-
-pub returns-in-Some : goal.returns-in-Some
-returns-in-Some g c =
-    let s = c.args.self.now in
-    let n = nth-lessen_some (vec_items s.table.losses) (g.R.Region.meaning s.below).lines c.args.k c.in-Some.line (sym c.in-Some.ensures) in
-    cc
+    rw (slice_get-lessen s.table.losses.items (g.R.Region.meaning s.below).lines c.args.k) (search rules)
