@@ -1,11 +1,7 @@
-pub mod Having
 pub mod Adding
-pub mod Balancing
 pub mod Dealing
 pub mod Nths
-pub mod Lessened
 pub mod LineRowed
-pub mod Spreads
 pub mod Parts
 pub mod Decimal
 pub mod Texts
@@ -19,3 +15,4 @@ pub mod Sequences
 pub mod NamingOn
 pub mod Summing
 pub mod Forming
+pub mod Counted

@@ -1,30 +1,24 @@
 -- The owners of a table, in rising number.
-use Rattle.std.specs.Prelude.{ℕ, zero, suc, Bool, true, false, cond, List, [], ◌∷◌, ◌++◌, map, vec_items, ◌==◌}
-use Rattle.std.specs.List.{flat_map}
+use Rattle.std.specs.Prelude.{ℕ, Bool, List, filter, vec_items, ◌==◌}
+use Rattle.std.specs.List.{list_any, range_with_len}
 use Rattle.hourbook.specs.declared.hourfile.owner.OwnerRow.{OwnerRow}
 use Rattle.hourbook.specs.declared.hourfile.owner.Owner.{Owner}
 use Rattle.hourbook.specs.declared.hourfile.owned_leg.OwnedLeg.{OwnedLeg}
 use Rattle.hourbook.specs.declared.hourfile.owned_line.OwnedLine.{OwnedLine}
 
--- whether n stands in a list
-abbrev pub has : ℕ → List ℕ → Bool
-has n [] = false
-has n (x ∷ xs) = cond (x == n) true (has n xs)
+-- whether owner n has a row of the leg, of the line, of one of the lines
+abbrev pub owns_leg : ℕ → OwnedLeg → Bool
+owns_leg n leg = list_any (λ (r : OwnerRow). r.owner == n) (vec_items leg.owners)
 
-abbrev pub leg_owners : OwnedLeg → List ℕ
-leg_owners leg = map (λ (r : OwnerRow). r.owner) (vec_items leg.owners)
+abbrev pub owns_line : ℕ → OwnedLine → Bool
+owns_line n line = list_any (owns_leg n) (vec_items line.legs)
 
-abbrev pub line_owners : OwnedLine → List ℕ
-line_owners line = flat_map leg_owners (vec_items line.legs)
-
--- the owners of all rows, in order of the table
-abbrev pub all_owners : List OwnedLine → List ℕ
-all_owners lines = flat_map line_owners lines
+abbrev pub owns : ℕ → List OwnedLine → Bool
+owns n lines = list_any (owns_line n) lines
 
 -- the owners with a number below k, each once, in rising number
 unfoldable pub owners_below : List OwnedLine → ℕ → List ℕ
-owners_below lines zero = []
-owners_below lines (suc k) = owners_below lines k ++ cond (has k (all_owners lines)) (k ∷ []) []
+owners_below lines k = filter (λ n. owns n lines) (range_with_len 0 k)
 
 abbrev pub owners_of : List OwnedLine → List ℕ
 owners_of lines = owners_below lines 65

@@ -8,7 +8,7 @@ pub(crate) struct LossTable {
 }
 
 impl LossTable {
-    pub(crate) fn of(losses: Vec<u16>) -> LossTable
+    pub(crate) fn new(losses: Vec<u16>) -> LossTable
         ensures { result.losses.items ≡ losses.items }
     {
         LossTable { losses }
@@ -17,10 +17,6 @@ impl LossTable {
     pub(crate) fn at(&self, k: usize) -> u16
         ensures { result ≡ slice_index self.now.losses.items k }
     {
-        if k < self.losses.len() {
-            self.losses[k]
-        } else {
-            0
-        }
+        self.losses.get(k).copied().unwrap_or(0)
     }
 }

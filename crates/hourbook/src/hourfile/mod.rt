@@ -1,7 +1,6 @@
 //! The hour file: its records, its rules, and the tables that it describes.
 pub(crate) mod border;
 pub(crate) mod census;
-pub(crate) mod counting;
 pub(crate) mod fault;
 pub(crate) mod gathered;
 pub(crate) mod hour_file;
@@ -15,15 +14,12 @@ pub(crate) mod owned_leg;
 pub(crate) mod owned_line;
 pub(crate) mod owner;
 pub(crate) mod ownership;
-pub(crate) mod owning;
 pub(crate) mod position;
 pub(crate) mod price;
 pub(crate) mod prices;
-pub(crate) mod pricing;
 pub(crate) mod ranges;
 pub(crate) mod read;
 pub(crate) mod record;
 pub(crate) mod records;
-pub(crate) mod rising;
 pub(crate) mod sums;
 pub(crate) mod tally;

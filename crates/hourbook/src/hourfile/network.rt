@@ -17,7 +17,7 @@ pub(crate) struct Network {
 }
 
 impl Network {
-    pub(crate) fn of(
+    pub(crate) fn new(
         method: Method,
         positions: Vec<NetPosition>,
         borders: Vec<Border>,

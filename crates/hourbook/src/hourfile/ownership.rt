@@ -1,26 +1,96 @@
 //! Who owns the lines of a region.
-ghost use Rattle.std.specs.Prelude.{◌≡◌, ◌<◌, ◌≤◌, map, vec_len};
+ghost use Rattle.std.specs.Prelude.{◌≡◌, ◌<◌, ◌≤◌, IfOk, map, length, vec_len};
 ghost use Rattle.hourbook.specs.OwnerRows.{rows_of};
-ghost use Rattle.hourbook.specs.Rising.{owners_of, number_of};
+ghost use Rattle.hourbook.specs.Rising.{owns, owners_of, number_of};
 
+use crate::hourfile::fault::FileFault;
 use crate::hourfile::owned_line::OwnedLine;
 use crate::hourfile::owner::Owner;
+use std::alloc::{AllocError, Global};
+
+// Owners are numbered below it.
+const OWNERS: u8 = 65;
+
+const REGIONS: u8 = 32;
+
+const MOST_LINES: usize = 64;
+
+const MOST_OWNERS: usize = 64;
+
+const MOST_ROWS: usize = 128;
 
 // The region's number, its lines in rising number, and all owners with a row, each once, in rising number.
-// `rows` is how many owner rows there are.
 #[derive(Drop)]
 pub(crate) struct Ownership {
     pub(crate) region: u8,
     pub(crate) lines: Vec<OwnedLine>,
     pub(crate) owners: Vec<Owner>,
-    pub(crate) rows: usize,
     ghost region_named: { 1 ≤ region },
     ghost region_known: { region ≤ 32 },
-    ghost counted: { rows ≡ rows_of lines.items },
-    ghost few_rows: { rows ≤ 128 },
+    ghost few_rows: { rows_of lines.items ≤ 128 },
     ghost some: { 0 < vec_len lines },
     ghost few: { vec_len lines ≤ 64 },
     ghost some_owners: { 0 < vec_len owners },
     ghost rising: { map number_of owners.items ≡ owners_of lines.items },
     ghost few_owners: { vec_len owners ≤ 64 },
+}
+
+// How many owner rows the lines have.
+fn row_count(lines: &[OwnedLine]) -> usize
+    requires { length lines.now ≤ 64 }
+    ensures { result ≡ rows_of lines.now }
+{
+    lines.iter().map(|line| line.row_count()).sum()
+}
+
+// Whether an owner has a row.
+fn is_owner(lines: &[OwnedLine], number: u8) -> bool
+    ensures { result ≡ owns number lines.now }
+{
+    lines.iter().any(|line| line.is_owned_by(number))
+}
+
+// The owners with a row, each once, in rising number.
+fn rising_owners(heap: Global, lines: &[OwnedLine]) -> Result<Vec<Owner>, AllocError>
+    ensures { IfOk result (λ owners. map number_of owners.items ≡ owners_of lines.now) }
+{
+    (0..OWNERS)
+        .filter(|number| is_owner(lines, *number))
+        .map(|number| Owner { number })
+        .collect(heap)
+}
+
+impl Ownership {
+    // The ownership of a lawful file's lines, with its owners gathered from the rows.
+    pub(crate) fn new(
+        heap: Global,
+        region: u8,
+        lines: Vec<OwnedLine>,
+    ) -> Result<Ownership, FileFault>
+        ensures { IfOk result (λ t. (t.region ≡ region) × (t.lines.items ≡ lines.items)) }
+    {
+        if region < 1 || region > REGIONS || lines.is_empty() || lines.len() > MOST_LINES {
+            return Err(FileFault::Keys { leg: 0 });
+        }
+        let owners = rising_owners(heap, lines.as_slice())?;
+        if owners.is_empty()
+            || owners.len() > MOST_OWNERS
+            || row_count(lines.as_slice()) > MOST_ROWS
+        {
+            return Err(FileFault::Keys { leg: 0 });
+        }
+        Ok(Ownership {
+            region,
+            lines,
+            owners,
+        })
+    }
+
+    // How many owner rows there are.
+    pub(crate) fn row_count(&self) -> usize
+        ensures is { result ≡ rows_of self.now.lines.items }
+        ensures few { result ≤ 128 }
+    {
+        row_count(self.lines.as_slice())
+    }
 }

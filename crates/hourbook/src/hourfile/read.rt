@@ -14,7 +14,7 @@ use crate::hourfile::network::Network;
 use crate::hourfile::owned_leg::OwnedLeg;
 use crate::hourfile::owned_line::OwnedLine;
 use crate::hourfile::owner::OwnerRow;
-use crate::hourfile::owning::{leg_of, line_of, ownership_of};
+use crate::hourfile::ownership::Ownership;
 use crate::hourfile::prices::Prices;
 use crate::hourfile::record::OwnerRecord;
 use std::alloc::Global;
@@ -41,9 +41,7 @@ fn tables_of(heap: Global, census: Census, gathered: Gathered) -> Result<HourFil
     }
     let legs = gathered.legs.as_slice();
     let lines = owned_lines(heap, census.lines(), legs, gathered.owners.as_slice())?;
-    let Some(ownership) = ownership_of(heap, census.region, lines)? else {
-        return Err(FileFault::Keys { leg: 0 });
-    };
+    let ownership = Ownership::new(heap, census.region, lines)?;
     let Gathered {
         prices,
         positions,
@@ -52,14 +50,14 @@ fn tables_of(heap: Global, census: Census, gathered: Gathered) -> Result<HourFil
         losses,
         owners: _,
     } = gathered;
-    let Some(network) = Network::of(census.method, positions, borders) else {
+    let Some(network) = Network::new(census.method, positions, borders) else {
         return Err(FileFault::Count { place: 0 });
     };
     Ok(HourFile {
         hour: census.hour,
         network,
-        prices: Prices::of(prices),
-        losses: LossTable::of(losses),
+        prices: Prices::new(prices),
+        losses: LossTable::new(losses),
         ownership,
     })
 }
@@ -74,12 +72,9 @@ fn owned_line(
     ensures { IfOk result (λ line. line_said line ≡ line_told legs.now owners.now number) }
 {
     let owned = owned_legs(heap, number, legs, owners)?;
-    match line_of(number, owned) {
-        Some(line) => Ok(line),
-        None => Err(FileFault::Contribution {
-            line: usize::from(number),
-        }),
-    }
+    OwnedLine::new(number, owned).ok_or(FileFault::Contribution {
+        line: usize::from(number),
+    })
 }
 
 // So many lines, in rising number.
@@ -104,12 +99,9 @@ fn owned_leg(heap: Global, leg: NumberedLeg, owners: &[OwnerRecord]) -> Result<O
     ensures { IfOk result (λ owned. told owned ≡ leg_told owners.now leg) }
 {
     let rows = owner_rows(heap, leg.number, owners)?;
-    match leg_of(leg.number, leg.contribution, rows) {
-        Some(owned) => Ok(owned),
-        None => Err(FileFault::Keys {
-            leg: usize::from(leg.number),
-        }),
-    }
+    OwnedLeg::new(leg.number, leg.contribution, rows).ok_or(FileFault::Keys {
+        leg: usize::from(leg.number),
+    })
 }
 
 // The legs of a line, in rising number.

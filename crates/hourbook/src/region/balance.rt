@@ -11,26 +11,25 @@ use crate::region::fault::Flaw;
 
 const LARGEST: u64 = 1_000_000;
 
-// A capacity, where the end of its border is the zone.
-fn capacity_in(end: u8, zone: usize, capacity: i32) -> i64
-    ensures value { result ≡ only end zone capacity }
-    ensures bound { unsigned_abs result ≤ unsigned_abs capacity }
-{
-    if usize::from(end) == zone {
-        i64::from(capacity)
-    } else {
-        0
-    }
-}
-
 impl Border {
+    // Its capacity, where an end is the zone.
+    fn capacity_in(&self, end: u8, zone: usize) -> i64
+        ensures value { result ≡ only end zone self.now.capacity.value }
+        ensures bound { unsigned_abs result ≤ 200000 }
+    {
+        if usize::from(end) == zone {
+            i64::from(self.capacity.get())
+        } else {
+            0
+        }
+    }
+
     // What its capacity takes out of a zone.
     fn capacity_at(&self, zone: usize) -> i64
         ensures value { result ≡ at_zone zone self.now }
         ensures bound { unsigned_abs result ≤ 400000 }
     {
-        let capacity = self.capacity.get();
-        capacity_in(self.near, zone, capacity) - capacity_in(self.far, zone, capacity)
+        self.capacity_in(self.near, zone) - self.capacity_in(self.far, zone)
     }
 }
 

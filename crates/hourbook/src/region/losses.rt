@@ -12,11 +12,11 @@ use crate::region::rows::{Line, Zone};
 fn shrunk(spread: i32, loss: u64) -> i32
     ensures { result ≡ shrink spread loss }
 {
-    let left = u64::from(spread.unsigned_abs()).saturating_sub(loss) as i64;
+    let whole = i64::from(spread);
     if spread < 0 {
-        (-left) as i32
+        whole.saturating_add_unsigned(loss).min(0) as i32
     } else {
-        left as i32
+        whole.saturating_sub_unsigned(loss).max(0) as i32
     }
 }
 

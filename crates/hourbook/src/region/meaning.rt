@@ -1,5 +1,5 @@
 //! What every region tells of itself.
-ghost use Rattle.std.specs.Prelude.{◌≡◌, drop, length};
+ghost use Rattle.std.specs.Prelude.{◌≡◌, ◌≤◌, drop, length};
 ghost use Rattle.std.specs.List.{slice_get};
 ghost use Rattle.hourbook.specs.Meaning.{Meaning, Bounded};
 
@@ -26,7 +26,8 @@ pub(crate) trait Region {
         ensures { result ≡ (meaning self.now).hub_price };
 
     fn line_count(&self) -> usize
-        ensures { result ≡ length (meaning self.now).lines };
+        ensures value { result ≡ length (meaning self.now).lines }
+        ensures few { result ≤ 64 };
 
     fn line(&self, k: usize) -> Option<Line>
         ensures { result ≡ slice_get (meaning self.now).lines k };

@@ -22,13 +22,6 @@ impl Line {
     }
 }
 
-pub(crate) fn line_count<R: Region>(region: &R) -> usize
-    ensures value { result ≡ length (R.meaning region.now).lines }
-    ensures few { result ≤ 64 }
-{
-    region.line_count()
-}
-
 // What all lines weigh.
 pub(crate) fn weigh_all<R: Region>(region: &R) -> u64
     ensures { result ≡ total (weights (R.meaning region.now)) }
