@@ -1,5 +1,6 @@
--- That what tables of the coordinated method stand for keeps its limits. Assumes nothing.
-use Rattle.std.specs.Prelude.{ℕ, zero, suc, ◌-◌, ◌≤◌, List, [], ◌∷◌, map, length, ℤ, pos, negsuc, Ok, Err, vec_items, Result, All, slice_index_or, unsigned_abs}
+-- That what tables of the coordinated method stand for keeps its limits. Assumes nothing. It stands here, since the law
+-- of an impl can cite nothing in proofs/.
+use Rattle.std.specs.Prelude.{ℕ, zero, suc, ◌-◌, ◌≤◌, List, [], ◌∷◌, ℤ, pos, negsuc, Ok, Err, vec_items, Result, All, slice_index_or, unsigned_abs}
 use Rattle.std.proofs.Common.{arith}
 use Rattle.std.proofs.lemmas.List.{length-map}
 use Rattle.std.proofs.lemmas.List.Elements.{All-nil, All-cons, All-map}

@@ -1,4 +1,5 @@
--- That a region under losses keeps its limits. Assumes nothing.
+-- That a region under losses keeps its limits. Assumes nothing. It stands here, since the law of an impl can cite
+-- nothing in proofs/.
 use Rattle.std.specs.Prelude.{◌≡◌, ℕ, suc, List, [], ◌∷◌, length, ℤ, pos, negsuc, All, refl}
 use Rattle.std.proofs.Common.{ap, arith}
 use Rattle.std.proofs.lemmas.List.Elements.{All-nil, All-cons, All-head, All-tail}

@@ -8,7 +8,8 @@ use crate::region::parts::Parts;
 use crate::region::rows::{Line, Zone};
 
 // A region is a verdict and, where it is sound, zones, lines and at most one hub price. Asking changes nothing.
-// Places count from 0; past the end, and in an unsound region, the answer is none.
+// Places count from 0; past the end, and in an unsound region, the answer is none. Asked by place, a layer can answer
+// from the region below it.
 pub(crate) trait Region {
     // what the region stands for
     ghost meaning: { Self → Meaning };

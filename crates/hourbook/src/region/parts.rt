@@ -9,14 +9,14 @@ use crate::region::meaning::Region;
 use crate::region::rows::{Line, Zone};
 use std::marker::PhantomData;
 
-// What a region has a list of.
+// What a region has a list of: a zone, or a line.
 pub(crate) trait Part {
     ghost list: { Meaning → List Self };
 
     fn at<R: Region>(region: &R, k: usize) -> Option<Self>
         ensures { result ≡ slice_get (list (R.meaning region.now)) k };
 
-    // that they are as few as the limits say
+    // that a region within its limits has few
     ghost few: { (m : Meaning) → Bounded m → length (list m) ≤ 64 };
 }
 
@@ -40,7 +40,7 @@ impl Part for Line {
     ghost few = { λ m h. h.few_lines };
 }
 
-// The parts of a region from the place `next` on.
+// The parts of a region that are left, from the place `next` on.
 #[derive(Drop)]
 pub(crate) struct Parts<'a, R, P> {
     region: &'a R,

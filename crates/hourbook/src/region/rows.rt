@@ -6,7 +6,7 @@ pub(crate) struct Zone {
     pub(crate) position: i32,
 }
 
-// Where a line ends: in a zone, numbered from 1, or in the slack hub.
+// Where a line ends: in a zone, numbered from 1, or in the slack hub, which is not a zone that is missing.
 #[derive(Clone, Copy, Debug, PartialEq, Eq)]
 pub(crate) enum LineEnd {
     Zone(u8),

@@ -36,6 +36,7 @@ pub(crate) fn write_weights<R: Region>(region: &R, rows: &mut [LineRow], work: &
     ensures rows { rows.new ≡ written rows.old 0 (line_rows_from 1 (weights (R.meaning region.now))) }
     ensures work { work.new ≡ written work.old 0 (map pos (weights (R.meaning region.now))) }
 {
+    // by place, since a proof knows nothing of a slice that was written through a zip
     for (k, line) in region.lines().enumerate() {
         let weight = line.weight();
         rows[k] = LineRow {

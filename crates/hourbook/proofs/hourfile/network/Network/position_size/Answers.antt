@@ -1,4 +1,4 @@
-use Rattle.std.proofs.Common.{◌≡◌, map, sym, ap, ◌∙◌, rules, unsigned_abs}
+use Rattle.std.proofs.Common.{sym, ap, ◌∙◌, rules, unsigned_abs}
 use Rattle.std.proofs.lemmas.Iterator.{YieldsList-from_slice, YieldsList-from_map}
 use Rattle.std.proofs.lemmas.Iterator.Consumers.{YieldsList-at, sum_from_yields_List}
 use Rattle.std.proofs.lemmas.Simd.{map-map}
