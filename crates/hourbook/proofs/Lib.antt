@@ -1,10 +1,7 @@
-pub mod Dealing
 pub mod Adding
+pub mod Dealing
 pub mod Nths
-pub mod Lessened
-pub mod Facts
 pub mod LineRowed
-pub mod Spreads
 pub mod Parts
 pub mod Sinking
 pub mod Owns
