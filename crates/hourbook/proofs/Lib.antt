@@ -1,5 +1,6 @@
-pub mod Adding
+pub mod Rest
 pub mod Dealing
+pub mod Adding
 pub mod Nths
 pub mod LineRowed
 pub mod Parts

@@ -14,10 +14,6 @@ use Rattle.std.proofs.lemmas.List.{append_assoc, take_at, drop_at, map-append, l
 use Rattle.sharing.specs.Shares.{total}
 use Rattle.sharing.specs.Writes.{written}
 
--- the front of memory that was written over
-pub front : {X : Type 0} (m xs : List X) (n : ℕ) → length xs ≡ n → take n (written m 0 xs) ≡ xs
-front m xs n e = take_at xs _ n e
-
 pub abs_all : (ss : List ℕ) → map nat_abs (map pos ss) ≡ ss
 abs_all [] = refl
 abs_all (s ∷ ss) = ap (λ l. s ∷ l) (abs_all ss)

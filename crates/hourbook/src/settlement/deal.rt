@@ -35,6 +35,7 @@ fn deal_line(amount: Amount, origin: Origin, line: &OwnedLine, out: &mut [Row]) 
     ensures memory { out.new ≡ written out.old 0 (line_deal origin amount.cents line.now) }
     ensures count { result ≡ length (line_deal origin amount.cents line.now) }
 {
+    // no heap in settling, and a line has at most 64 legs
     let mut parts = [0i64; 64];
     share_amount(amount, &line.legs, &Plain, &mut parts);
     let mut count = 0;

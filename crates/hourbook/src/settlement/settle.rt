@@ -58,12 +58,12 @@ pub(crate) fn entries_needed(income: i64, table: &Ownership) -> usize
 
 // Writes all weights, and then the lines' shares of `amount`.
 fn fill_work<R: Region>(region: &R, amount: Amount, work: &mut [i64])
-    requires some { 0 < length (R.meaning region.now).lines }
     requires light { total (weights (R.meaning region.now)) ≤ 4000000000 }
     requires room { 2 * length (R.meaning region.now).lines ≤ length work.old }
     ensures { work.new ≡ written work.old 0 (map pos (weights (R.meaning region.now) ++ shares amount.cents (weights (R.meaning region.now)))) }
 {
     let lines = region.line_count();
+    // no heap in settling, and a region has at most 64 lines
     let mut rows = [LineRow {
         number: 0,
         weight: 0,

@@ -1,15 +1,15 @@
-use Rattle.std.proofs.Common.{◌≡◌, ◌-◌, ◌≤◌, List, map, length, take, drop, pos, ap, ◌∙◌, arith}
-use Rattle.std.proofs.lemmas.List.{length-map}
+use Rattle.std.proofs.Common.{◌≡◌, ◌-◌, List, map, length, take, drop, pos, ap, ◌∙◌, arith}
+use Rattle.std.proofs.lemmas.List.{length-map, take_at}
 use Rattle.hourbook.specs.declared.settlement.line_row.LineRow.{LineRow}
-use Rattle.sharing.specs.Shares.{total, shares}
+use Rattle.sharing.specs.Shares.{shares}
 use Rattle.sharing.specs.Writes.{written, cells}
 use Rattle.hourbook.specs.Worths.{weights, weight}
 use Rattle.hourbook.specs.LineRows.{line_rows_from}
 use Rattle.sharing.proofs.Cells.{cells_plain}
 use Rattle.sharing.proofs.Lawful.{length-shares}
 use Rattle.hourbook.proofs.LineRowed.{length_rows, rows_weigh}
-use Rattle.hourbook.proofs.Dealing.{written_rest}
-use Rattle.hourbook.proofs.Parts.{front, both}
+use Rattle.hourbook.proofs.Rest.{written_rest}
+use Rattle.hourbook.proofs.Parts.{both}
 use Rattle.hourbook.proofs.settlement.settle.fill_work.Given as given
 use Rattle.hourbook.proofs.settlement.settle.fill_work.Goals as goal
 use Rattle.hourbook.proofs.settlement.settle.fill_work.Goals.{After-write_weights}
@@ -20,7 +20,7 @@ rows_are g c =
     let m = g.R.Region.meaning c.args.region.now in
     let n = length-map m.lines weight in
     let r = length_rows 1 (weights m) in
-    ap (take c.line_count-lines.result) c.write_weights.ensures.rows ∙ front _ (line_rows_from 1 (weights m)) c.line_count-lines.result (omega arith)
+    ap (take c.line_count-lines.result) c.write_weights.ensures.rows ∙ take_at (line_rows_from 1 (weights m)) _ c.line_count-lines.result (omega arith)
 
 -- and they weigh what the lines do
 weights_are : (g : given.Over) (c : goal.After-write_weights g) → map (λ (r : LineRow). r.weight) (take c.line_count-lines.result c.write_weights.new.rows) ≡ weights (g.R.Region.meaning c.args.region.now)

@@ -6,7 +6,7 @@ use Rattle.sharing.specs.Writes.{written}
 use Rattle.sharing.proofs.Lawful.{adds, length-shares}
 use Rattle.hourbook.specs.Worths.{weights, weight, income_of}
 use Rattle.hourbook.specs.Settled.{credit, work_of, paid}
-use Rattle.hourbook.proofs.Dealing.{rest_room, written_rest}
+use Rattle.hourbook.proofs.Rest.{rest_room, written_rest}
 use Rattle.hourbook.proofs.Parts.{second, abs_all, credit_max, credit_small}
 use Rattle.hourbook.proofs.settlement.settle.write.Given as given
 use Rattle.hourbook.proofs.settlement.settle.write.Goals as goal
@@ -48,7 +48,6 @@ pub fill_work-requires : goal.fill_work-requires
 fill_work-requires g c =
     let acc = c.requires.accepted in
     record {
-      some = omega (arith, acc.lines, c.args.table.now.some);
       light = acc.light;
       room = acc.room;
     }
