@@ -1,21 +1,18 @@
--- Signed sums over what is left of a list. Assumes nothing.
-use Rattle.std.proofs.Common.{◌≡◌, ℕ, ◌+◌, ◌<◌, ◌≤◌, List, map, length, get_or, drop, ℤ, pos, ◌+ℤ◌, nat_abs, sym, ap, ◌∙◌}
-use Rattle.std.proofs.lemmas.List.{at_drop_more, at_drop_all}
+-- Sums over a list that a loop has not ended. Assumes nothing.
+use Rattle.std.proofs.Common.{◌≡◌, ℕ, ◌+◌, ◌<◌, List, [], ◌∷◌, ◌++◌, map, length, get_or, take, ℤ, pos, ◌+ℤ◌, sum, sym, refl, ap, ◌∙◌, arith}
+use Rattle.std.proofs.lemmas.List.{get_or-map, length-map, map-append}
+use Rattle.std.proofs.lemmas.List.Recursion.{is_sum_by}
+use Rattle.std.proofs.lemmas.List.Sums.{fold_more, fold_push}
 use Rattle.sharing.specs.Shares.{total}
 use Rattle.hourbook.specs.SignedSums.{sum_z}
 
-module _ {X : Type 0} (f : X → ℤ) (xs : List X) (i : ℕ) where
-  pub sum_next : (x : X) → i < length xs → x ≡ get_or xs i x → sum_z (map f (drop i xs)) ≡ f x +ℤ sum_z (map f (drop (i + 1) xs))
-  sum_next x within read =
-      at_drop_more (λ ys. sum_z (map f ys)) xs i x within ∙ ap (λ y. f y +ℤ sum_z (map f (drop (i + 1) xs))) (sym read)
+pub sum_more : {X : Type 0} (f : X → ℤ) (xs : List X) (i : ℕ) (x : X) → i < length xs → x ≡ get_or xs i x → sum_z (take (i + 1) (map f xs)) ≡ sum_z (take i (map f xs)) +ℤ f x
+sum_more f xs i x h read =
+    fold_more ◌+ℤ◌ (pos 0) (map f xs) i (f x) (omega (arith, length-map xs f))
+    ∙ ap (λ z. sum_z (take i (map f xs)) +ℤ z) (get_or-map f xs i x (f x) h ∙ ap f (sym read))
 
-  pub sum_end : length xs ≤ i → sum_z (map f (drop i xs)) ≡ pos 0
-  sum_end h = at_drop_all (λ ys. sum_z (map f ys)) xs i h
+pub sum_push : {X : Type 0} (f : X → ℤ) (xs : List X) (x : X) → sum_z (map f (xs ++ x ∷ [])) ≡ sum_z (map f xs) +ℤ f x
+sum_push f xs x = ap sum_z (map-append f xs (x ∷ [])) ∙ fold_push ◌+ℤ◌ (pos 0) (map f xs) (f x)
 
-  -- the same of magnitudes
-  pub size_next : (x : X) → i < length xs → x ≡ get_or xs i x → total (map nat_abs (map f (drop i xs))) ≡ nat_abs (f x) + total (map nat_abs (map f (drop (i + 1) xs)))
-  size_next x within read =
-      at_drop_more (λ ys. total (map nat_abs (map f ys))) xs i x within ∙ ap (λ y. nat_abs (f y) + total (map nat_abs (map f (drop (i + 1) xs)))) (sym read)
-
-  pub size_end : length xs ≤ i → total (map nat_abs (map f (drop i xs))) ≡ 0
-  size_end h = at_drop_all (λ ys. total (map nat_abs (map f ys))) xs i h
+pub sum_is_total : (ns : List ℕ) → sum ns ≡ total ns
+sum_is_total ns = sym (is_sum_by total (λ n. n) refl (λ _ _. refl) ns)

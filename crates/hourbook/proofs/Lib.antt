@@ -2,10 +2,7 @@ pub mod Rest
 pub mod Dealing
 pub mod Adding
 pub mod Nths
-pub mod Lessened
-pub mod Facts
 pub mod LineRowed
-pub mod Spreads
 pub mod Parts
 pub mod Sinking
 pub mod Owns

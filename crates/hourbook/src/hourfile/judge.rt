@@ -86,7 +86,10 @@ fn order(bytes: &[u8]) -> Result<Header, FileFault>
 fn leading_header(bytes: &[u8]) -> Option<Header>
     ensures { MatchOption result ((h : Headed) → Begins bytes.now (RecordHeader h) → ⊥) (λ h. Begins bytes.now (RecordHeader h)) }
 {
-    first_record(bytes)?.header()
+    match first_record(bytes)? {
+        Record::Header(header) => Some(header),
+        _ => None,
+    }
 }
 
 // No kind comes too often, and none is missing.
@@ -106,9 +109,7 @@ fn ranges(bytes: &[u8], header: Header) -> Result<Method, FileFault>
     ensures rule { MatchResult result (Ranged bytes.now header) (OutOfRange bytes.now header) }
     ensures number { MatchResult result (λ m. method_of header.method ≡ Some m) (λ e. number_of e ≡ 4) }
 {
-    let Some(method) = header.method() else {
-        return Err(FileFault::Range { place: 1 });
-    };
+    let method = header.method().ok_or(FileFault::Range { place: 1 })?;
     follow(bytes, Ranges { method })?;
     Ok(method)
 }

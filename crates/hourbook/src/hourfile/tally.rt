@@ -1,5 +1,5 @@
 //! How many records of each kind an hour file has.
-ghost use Rattle.std.specs.Prelude.{◌≡◌, ◌↔◌, ◌+◌, ◌<◌, Decides, IsTrue};
+ghost use Rattle.std.specs.Prelude.{◌≡◌, ◌↔◌, ◌+◌, ◌<◌, IsTrue};
 ghost use Rattle.std.specs.Bool.{OnFalse, OnTrue};
 ghost use Rattle.hourbook.specs.Kinds.{kind_of};
 ghost use Rattle.hourbook.specs.Tallies.{Furnished, WithinLimits, added, none_yet};
@@ -41,7 +41,7 @@ impl Tally {
 
     // Whether nothing is missing that a file of this method must have.
     pub(crate) fn suffices(&self, method: Option<Method>) -> bool
-        ensures { Decides result (Furnished self.now method) }
+        ensures { IsTrue result ↔ Furnished self.now method }
     {
         match method {
             Some(Method::Coordinated) => self.zones > 0 && self.borders > 0,

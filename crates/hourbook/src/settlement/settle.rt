@@ -14,7 +14,7 @@ use crate::settlement::deal::deal_lines;
 use crate::settlement::fault::SettlementFault;
 use crate::settlement::income::income;
 use crate::settlement::line_row::LineRow;
-use crate::settlement::weights::{line_count, weigh_all, write_weights};
+use crate::settlement::weights::{weigh_all, write_weights};
 use sharing::{Amount, LARGEST_AMOUNT, LARGEST_WEIGHT_SUM, Plain};
 
 // The income of a region that can be settled with this table and so many places of work memory.
@@ -27,7 +27,7 @@ pub(crate) fn judge<R: Region>(
     ensures facts { IfOk result (Accepted (R.meaning region.now) (vec_len table.now.lines) room) }
 {
     region.verdict()?;
-    let lines = line_count(region);
+    let lines = region.line_count();
     if lines != table.lines.len() {
         return Err(SettlementFault::Lines);
     }
@@ -62,7 +62,7 @@ fn fill_work<R: Region>(region: &R, amount: Amount, work: &mut [i64])
     requires room { 2 * length (R.meaning region.now).lines ≤ length work.old }
     ensures { work.new ≡ written work.old 0 (map pos (weights (R.meaning region.now) ++ shares amount.cents (weights (R.meaning region.now)))) }
 {
-    let lines = line_count(region);
+    let lines = region.line_count();
     // no heap in settling, and a region has at most 64 lines
     let mut rows = [LineRow {
         number: 0,

@@ -1,5 +1,5 @@
 //! The weights of a region's lines.
-ghost use Rattle.std.specs.Prelude.{◌≡◌, ◌<◌, ◌≤◌, map, length, pos, slice_index};
+ghost use Rattle.std.specs.Prelude.{◌≡◌, ◌≤◌, map, length, pos};
 ghost use Rattle.sharing.specs.Shares.{total};
 ghost use Rattle.sharing.specs.Writes.{written};
 ghost use Rattle.hourbook.specs.Meaning.{LineBounded};
@@ -10,32 +10,15 @@ use crate::region::meaning::Region;
 use crate::region::rows::Line;
 use crate::settlement::line_row::LineRow;
 
-// What flow times spread is worth, in cents, rounded up; against the spread it weighs as much as with it.
-fn line_weight(line: &Line) -> u64
-    requires { LineBounded line.now }
-    ensures value { result ≡ weight line.now }
-    ensures bound { result ≤ 20000000000000 }
-{
-    let whole = line.flow.unsigned_abs() * u64::from(line.spread.unsigned_abs());
-    (whole + 99_999) / 100_000
-}
-
-pub(crate) fn line_count<R: Region>(region: &R) -> usize
-    ensures value { result ≡ length (R.meaning region.now).lines }
-    ensures few { result ≤ 64 }
-{
-    region.line_count()
-}
-
-// The weight of the k-th line.
-fn weight_at<R: Region>(region: &R, k: usize) -> u64
-    requires { k < length (R.meaning region.now).lines }
-    ensures value { result ≡ slice_index (weights (R.meaning region.now)) k }
-    ensures bound { result ≤ 20000000000000 }
-{
-    match region.line(k) {
-        Some(line) => line_weight(&line),
-        None => 0,
+impl Line {
+    // What flow times spread is worth, in cents, rounded up; against the spread it weighs as much as with it.
+    fn weight(&self) -> u64
+        requires { LineBounded self.now }
+        ensures value { result ≡ weight self.now }
+        ensures bound { result ≤ 20000000000000 }
+    {
+        let whole = self.flow.unsigned_abs() * u64::from(self.spread.unsigned_abs());
+        whole.div_ceil(100_000)
     }
 }
 
@@ -43,11 +26,7 @@ fn weight_at<R: Region>(region: &R, k: usize) -> u64
 pub(crate) fn weigh_all<R: Region>(region: &R) -> u64
     ensures { result ≡ total (weights (R.meaning region.now)) }
 {
-    let mut sum: u64 = 0;
-    for k in 0..line_count(region) {
-        sum += weight_at(region, k);
-    }
-    sum
+    region.lines().map(|line| line.weight()).sum()
 }
 
 // Writes the lines' weights to the first places of `rows` and of `work`.
@@ -57,8 +36,9 @@ pub(crate) fn write_weights<R: Region>(region: &R, rows: &mut [LineRow], work: &
     ensures rows { rows.new ≡ written rows.old 0 (line_rows_from 1 (weights (R.meaning region.now))) }
     ensures work { work.new ≡ written work.old 0 (map pos (weights (R.meaning region.now))) }
 {
-    for k in 0..line_count(region) {
-        let weight = weight_at(region, k);
+    // by place, since a proof knows nothing of a slice that was written through a zip
+    for (k, line) in region.lines().enumerate() {
+        let weight = line.weight();
         rows[k] = LineRow {
             number: (k + 1) as u8,
             weight,

@@ -1,24 +1,36 @@
-use Rattle.std.proofs.Common.{◌≡◌, ◌+◌, ◌<◌, length, get_or, drop, pos, ◌+ℤ◌, arith}
+use Rattle.std.proofs.Common.{◌≡◌, ◌<◌, map, length, drop, sym, ap, ◌∙◌, arith}
 use Rattle.std.proofs.lemmas.Int.{ints, to_z-of_z}
-use Rattle.std.proofs.lemmas.List.{at_drop_more, at_drop_all, length-map}
+use Rattle.std.proofs.lemmas.List.{length_push, map-id}
+use Rattle.std.proofs.lemmas.Iterator.Consumers.{YieldsList-at, YieldsList-from_first, YieldsList-turn, YieldsList-end}
 use Rattle.hourbook.specs.SignedSums.{sum_z}
 use Rattle.hourbook.specs.Worths.{worths, worth}
+use Rattle.hourbook.proofs.Adding.{sum_push}
 use Rattle.hourbook.proofs.settlement.income.income.Goals as goal
+use Rattle.hourbook.proofs.settlement.income.income.Given as given
 
-pub loop-k-preserved : goal.loop-k-preserved
-loop-k-preserved g c =
+-- the zones so far are fewer than all
+few : (g : given.Over) (c : goal.After-worth-sum g) → length c.loop-zone.yielded < 16
+few g c =
     let m = g.R.Region.meaning c.args.region.now in
-    let zs = worths m in
-    let n = length-map m.zones worth in
-    let h : c.loop-k.k < length zs = omega arith in
-    let next : sum_z (drop c.loop-k.k zs) ≡ get_or zs c.loop-k.k (pos 0) +ℤ sum_z (drop (c.loop-k.k + 1) zs) = at_drop_more sum_z zs c.loop-k.k (pos 0) h in
+    let road = YieldsList-at c.into_iter-zone-iterator.ensures.into_iter_gives (YieldsList-from_first (λ x. x) (λ s. drop s.next (g.R.Region.meaning s.region.now).zones) m.zones c.zones-zone-items.ensures) in
+    let turn = YieldsList-turn road c.loop-zone.yielded c.loop-zone.zone-iterator c.loop-zone.yielded_by c.next.result c.next.new.self c.in-Some.zone c.in-Some.is c.next.ensures.steps in
+    omega (arith, (g.met.R.Region.bounded c.args.region.now).few_zones)
+
+pub overflow_add-sum : goal.overflow_add-sum
+overflow_add-sum g c = let few = few g c in omega (arith, ints)
+
+pub loop-zone-preserved : goal.loop-zone-preserved
+loop-zone-preserved g c =
+    let few = few g c in
+    let more = sum_push worth c.loop-zone.yielded c.in-Some.zone in
+    let long = length_push c.loop-zone.yielded c.in-Some.zone in
     (omega (arith, ints), omega (arith, ints))
 
 pub returns : goal.returns
 returns g c =
     let m = g.R.Region.meaning c.args.region.now in
-    let zs = worths m in
-    let n = length-map m.zones worth in
-    let end : sum_z (drop c.loop-k.k zs) ≡ pos 0 = at_drop_all sum_z zs c.loop-k.k (omega arith) in
-    let all : c.loop-k.sum ≡ sum_z zs = omega (arith, ints, c.loop-k.invariant.0) in
+    let road = YieldsList-at c.into_iter-zone-iterator.ensures.into_iter_gives (YieldsList-from_first (λ x. x) (λ s. drop s.next (g.R.Region.meaning s.region.now).zones) m.zones c.zones-zone-items.ensures) in
+    let end = YieldsList-end road c.loop-zone.yielded c.loop-zone.zone-iterator c.loop-zone.yielded_by c.next.result c.next.new.self c.in-None.is c.next.ensures.steps in
+    let long = (g.met.R.Region.bounded c.args.region.now).few_zones in
+    let all : sum_z (map worth c.loop-zone.yielded) ≡ sum_z (worths m) = ap (λ zs. sum_z (map worth zs)) (sym (map-id c.loop-zone.yielded) ∙ end.0) in
     grind (arith, ints, to_z-of_z)

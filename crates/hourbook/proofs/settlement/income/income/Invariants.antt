@@ -1,9 +1,9 @@
-use Rattle.std.proofs.Common.{◌≡◌, ◌*◌, ◌≤◌, drop, ◌+ℤ◌, nat_abs}
+use Rattle.std.proofs.Common.{◌≡◌, ◌*◌, ◌≤◌, map, length, unsigned_abs}
 use Rattle.hourbook.specs.SignedSums.{sum_z}
-use Rattle.hourbook.specs.Worths.{worths}
+use Rattle.hourbook.specs.Worths.{worth}
 use Rattle.hourbook.proofs.settlement.income.income.Given as goal
 
-abbrev pub invariant-loop-k : goal.invariant-loop-k
-invariant-loop-k g l =
-    let zs = worths (g.R.Region.meaning l.region) in
-    (l.sum +ℤ sum_z (drop l.k zs) ≡ sum_z zs) × (nat_abs l.sum ≤ l.k * 500000000000)
+abbrev pub invariant-loop-zone : goal.invariant-loop-zone
+invariant-loop-zone g l =
+    (l.sum ≡ sum_z (map worth l.yielded))
+    × (unsigned_abs l.sum ≤ length l.yielded * 500000000000)
