@@ -45,7 +45,8 @@ impl<'a> Statement<'a> {
         }
     }
 
-    // The text, once for all that take it.
+    // The text, for whatever takes it. An `if` in the loop: over a filter, the check states no invariant here, where the
+    // sink is a type parameter.
     fn put<S: Sink>(&self, sink: &mut S)
         requires { S.has_room sink.old (length (statement_of self.now.owner (own self.now.owner self.now.entries.now))) }
         ensures { S.took sink.old (statement_of self.now.owner (own self.now.owner self.now.entries.now)) sink.new }
