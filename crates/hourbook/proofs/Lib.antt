@@ -13,7 +13,9 @@ pub mod Kept
 pub mod Collect
 pub mod Passing
 pub mod Sequences
-pub mod NamingOn
+pub mod HandedOn
+pub mod InTurn
+pub mod Limits
 pub mod Summing
-pub mod Forming
 pub mod Counted
+pub mod TryCollected

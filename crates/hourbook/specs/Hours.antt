@@ -28,13 +28,7 @@ use Rattle.sharing.specs.Writes.{written}
 -- want of memory is no refusal
 abbrev pub failure_of : FileFault → Failure
 failure_of file.Memory = Memory
-failure_of (file.Unread p) = Refused (Settlement (Region (File (file.Unread p))))
-failure_of (file.Order p) = Refused (Settlement (Region (File (file.Order p))))
-failure_of (file.Count p) = Refused (Settlement (Region (File (file.Count p))))
-failure_of (file.Range p) = Refused (Settlement (Region (File (file.Range p))))
-failure_of (file.Name p) = Refused (Settlement (Region (File (file.Name p))))
-failure_of (file.Contribution l) = Refused (Settlement (Region (File (file.Contribution l))))
-failure_of (file.Keys l) = Refused (Settlement (Region (File (file.Keys l))))
+failure_of f = Refused (Settlement (Region (File f)))
 
 -- the hour and the region of the credits
 abbrev pub hour_origin : ℕ → Ownership → Origin

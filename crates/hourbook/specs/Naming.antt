@@ -1,5 +1,5 @@
 -- What a record may name, after the records before it.
-use Rattle.std.specs.Prelude.{◌≡◌, ℕ, ◌+◌, ◌-◌, ◌<◌, ◌≤◌, Bool, true, false, List, [], ◌∷◌, replicate, ◌≢◌, slice_index, slice_index_or, slice_set}
+use Rattle.std.specs.Prelude.{◌≡◌, ℕ, ◌+◌, ◌-◌, ◌<◌, ◌≤◌, Bool, true, false, List, [], replicate, ◌≢◌, slice_index, slice_index_or, slice_set}
 use Rattle.hourbook.specs.declared.hourfile.census.Census.{Census}
 use Rattle.hourbook.specs.declared.hourfile.fault.FileFault.{FileFault}
 use Rattle.hourbook.specs.declared.hourfile.fault.FileFault.TheVariants.{Name}
@@ -12,7 +12,7 @@ use Rattle.hourbook.specs.declared.hourfile.«record».LossRecord.{LossRecord}
 use Rattle.hourbook.specs.declared.hourfile.«record».Record.{Record}
 use Rattle.hourbook.specs.declared.hourfile.«record».Record.TheVariants.{Header, Zone, Border, Leg, Factor, Loss, Owner, End}
 use Rattle.hourbook.specs.Numbering.{Numbered, lines_of}
-use Rattle.hourbook.specs.Passes.{FirstOut, Passed}
+use Rattle.hourbook.specs.Passes.{AllInTurn, FirstOut, Passed}
 
 abbrev pub census_lines : Census → ℕ
 census_lines c = lines_of c.method c.zones c.borders
@@ -77,8 +77,7 @@ noted n End = n
 
 -- each record names what is there, after the records before it
 abbrev pub AllNamed : Names → List Record → Type 0
-AllNamed n [] = Unit {0}
-AllNamed n (r ∷ rs) = Named n r × AllNamed (noted n r) rs
+AllNamed = AllInTurn Named noted
 
 -- rule 5 is kept by all records
 abbrev pub NamesKept : List ℕ → Census → Type 0

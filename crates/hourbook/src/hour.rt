@@ -17,21 +17,35 @@ use crate::region::coordinated::Coordinated;
 use crate::region::losses::Losses;
 use crate::region::meaning::Region;
 use std::alloc::{AllocError, Global};
+use thiserror::Error;
 
 // An hour file has at most 64 lines, and 128 owner rows.
 const WORK: usize = 128;
 
 const ENTRIES: usize = 128;
 
+// A place of entry memory before an entry is written to it.
+const BLANK: Row = Row {
+    hour: 0,
+    amount: 0,
+    kind: EntryKind::Credit,
+    region: 0,
+    line: 0,
+    leg: 0,
+    owner: 0,
+};
+
 // Two lines of at most 25 bytes together, and one of at most 34 for each entry.
 const PAGE: usize = 34 * ENTRIES + 25;
 
 // Why an hour has no statements.
-#[derive(Clone, Copy)]
+#[derive(Clone, Copy, Debug, PartialEq, Eq, Error)]
 pub(crate) enum Failure {
+    #[error("{0}")]
     Refused(BookFault),
+    #[error("no memory for the hour")]
     Memory,
-    // the method of the file is not built yet
+    #[error("the flow-based method is not built yet")]
     Unbuilt,
 }
 
@@ -66,9 +80,7 @@ impl From<AllocError> for Failure {
 pub(crate) fn statements(heap: Global, bytes: &[u8]) -> Result<Vec<u8>, Failure>
     ensures { IfOk result (λ t. DescribedAndStated bytes.now t.items) }
 {
-    let file = read(heap, bytes)?;
-    let text = stated(heap, file)?;
-    Ok(text)
+    stated(heap, read(heap, bytes)?)
 }
 
 // The statements of a file's owners in rising number, its hour posted in an empty book.
@@ -82,29 +94,12 @@ fn stated(heap: Global, file: HourFile) -> Result<Vec<u8>, Failure>
         losses,
         ownership,
     } = file;
-    let Some(below) = Coordinated::of(&network, &prices) else {
-        return Err(Failure::Unbuilt);
-    };
+    let below = Coordinated::of(&network, &prices).ok_or(Failure::Unbuilt)?;
     let region = Losses::over(below, losses);
-    let mut memory = entry_memory(heap)?;
+    let mut memory = vec![in heap; BLANK; ENTRIES]?;
     let mut work = vec![in heap; 0i64; WORK]?;
     let book = posted(&region, &ownership, hour, &mut memory, &mut work)?;
-    let text = pages(heap, &book, memory.as_slice(), ownership.owners.as_slice())?;
-    Ok(text)
-}
-
-// Places for the entries of one hour file.
-fn entry_memory(heap: Global) -> Result<Vec<Row>, AllocError> {
-    let blank = Row {
-        hour: 0,
-        amount: 0,
-        kind: EntryKind::Credit,
-        region: 0,
-        line: 0,
-        leg: 0,
-        owner: 0,
-    };
-    vec![in heap; blank; ENTRIES]
+    pages(heap, &book, &memory, &ownership.owners)
 }
 
 // An empty book with the hour opened, the region settled, and both posted: its entries are the region's credits.
@@ -118,7 +113,7 @@ fn posted<R: Region>(
     ensures { IfOk result (λ book. Posted (R.meaning region.now) ownership.now hour book.used memory.old memory.new) }
 {
     let mut book = RestingBook::empty().open(memory, hour)?;
-    let _ = book.settle(memory, region, ownership, work)?;
+    book.settle(memory, region, ownership, work)?;
     Ok(book.post(memory)?)
 }
 
@@ -133,8 +128,7 @@ fn append_page(
     ensures { OnOk result (text.new.items ≡ text.old.items ++ page_of book.now.used memory.now owner) }
 {
     let n = book.statement(memory, owner.number, page)?;
-    text.extend_from_slice(&page[0..n])?;
-    Ok(())
+    Ok(text.extend_from_slice(&page[..n])?)
 }
 
 // The owners' statements, one after another.
@@ -159,15 +153,6 @@ mod tests {
     use super::*;
     use std::test::Fail;
 
-    // The number and place of a refusal, (0, 0) for statements, and (0, 1) for an hour that is not settled.
-    fn outcome(heap: Global, bytes: &[u8]) -> (u8, usize) {
-        match statements(heap, bytes) {
-            Ok(_) => (0, 0),
-            Err(Failure::Refused(fault)) => (fault.number(), fault.place()),
-            Err(_) => (0, 1),
-        }
-    }
-
     #[test]
     fn a_negative_income_is_borne_in_equal_shares(rt: HostRuntime) -> Result<(), Fail> {
         let file =
@@ -182,12 +167,20 @@ mod tests {
     }
 
     #[test]
-    fn refusals_of_region_and_settlement(rt: HostRuntime) {
+    fn refusals_of_region_and_settlement(rt: HostRuntime) -> Result<(), Fail> {
         let unbalanced =
             b"H\x00\x00\x00\x07\x01\x02Z\x00\x00\x00\x0a\x00\x00\x00\x63Z\x00\x00\x00\x00\xff\xff\xff\x9cB\x01\x02\x00\x00\x00\x64L\x01\x00\x01O\x01\x01\x27\x10E";
-        assert_eq!(rt; outcome(rt.alloc(), unbalanced), (8, 0));
+        let Err(Failure::Refused(fault)) = statements(rt.alloc(), unbalanced) else {
+            return Err(Fail::new("not refused"));
+        };
+        let notice = fault.notice();
+        assert_eq!(rt; (notice.number, notice.place), (8, 0));
         let flow_based =
             b"H\x00\x00\x00\x07\x01\x01Z\x00\x00\x03\xe8\x00\x00\x00\x00L\x01\x00\x01O\x01\x01\x27\x10E";
-        assert_eq!(rt; outcome(rt.alloc(), flow_based), (0, 1));
+        assert_eq!(rt;
+            statements(rt.alloc(), flow_based).err(),
+            Some(Failure::Unbuilt)
+        );
+        Ok(())
     }
 }

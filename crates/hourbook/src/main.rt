@@ -5,11 +5,11 @@ mod book;
 mod entry;
 mod hour;
 mod hourfile;
+mod notice;
 mod region;
 mod settlement;
 mod within;
 
-use anyhow::anyhow;
 use hour::{Failure, statements};
 use std::io::{Read, Write};
 
@@ -27,13 +27,8 @@ fn run(rt: &HostRuntime) -> anyhow::Result<()> {
     let bytes = input(rt)?;
     match statements(rt.alloc(), bytes.as_slice()) {
         Ok(text) => Ok(rt.stdout().write_all(text.as_slice())?),
-        Err(Failure::Refused(fault)) => {
-            let number = fault.number();
-            let place = fault.place();
-            Ok(println!(rt; "R {number} {place}")?)
-        }
-        Err(Failure::Memory) => Err(anyhow!("no memory for the hour")),
-        Err(Failure::Unbuilt) => Err(anyhow!("the flow-based method is not built yet")),
+        Err(Failure::Refused(fault)) => Ok(println!(rt; "{fault}")?),
+        Err(failure) => Err(failure.into()),
     }
 }
 

@@ -1,8 +1,13 @@
 -- The counted weights: their sum, and the one at a place. Assumes nothing.
-use Rattle.std.proofs.Common.{◌≡◌, ℕ, zero, suc, ◌<◌, ◌≤◌, false, cond, eqb, ◌⊎◌, List, [], ◌∷◌, map, length, get_or, sym, refl, ap, ◌∙◌, inl, inr, arith}
+use Rattle.std.proofs.Common.{◌≡◌, ℕ, zero, suc, ◌<◌, ◌≤◌, Bool, true, false, cond, eqb, leb, ◌⊎◌, Option, MatchOption, List, [], ◌∷◌, map, length, get_or, sym, refl, ap, ◌∙◌, inl, inr, arith}
 use Rattle.std.proofs.lemmas.List.{get_or-map, length-map}
+use Rattle.std.specs.Bool.{then_some}
 use Rattle.std.proofs.lemmas.Bool.{ne_eqb}
+use Rattle.std.proofs.lemmas.Bool.Decides.{leb_tells}
 use Rattle.sharing.specs.Shares.{total, counts_as, counted, whole}
+use Rattle.sharing.specs.Counts.{Counts, all_count, counting_of, counts_with}
+use Rattle.sharing.specs.declared.counting.Counting.{Counting}
+use Rattle.sharing.specs.declared.counting.Counting.TheVariants.{Equal, ByWeight}
 
 ones_total : (ws : List ℕ) → total (map (counts_as 0) ws) ≡ length ws
 ones_total [] = refl
@@ -65,3 +70,29 @@ whole_light ws light few = elim (zero_or_more (total ws)) [
   | inl e ↦ omega (arith, counted_none ws e)
   | inr p ↦ omega (arith, ap total (counted_some ws p))
 ]
+
+all_count-cond : (b : Bool) (rows sum : ℕ) → all_count (cond b (Equal rows) (ByWeight sum)) ≡ cond b rows sum
+all_count-cond true rows sum = refl
+all_count-cond false rows sum = refl
+
+counts_with-cond : (b : Bool) (rows sum w : ℕ) → counts_with (cond b (Equal rows) (ByWeight sum)) w ≡ cond b 1 w
+counts_with-cond true rows sum w = refl
+counts_with-cond false rows sum w = refl
+
+module _ (ws : List ℕ) (sum rows : ℕ) (is : sum ≡ total ws) (as_many : rows ≡ length ws) where
+  pub counting_sum : all_count (counting_of sum rows) ≡ whole ws
+  counting_sum = all_count-cond (eqb sum 0) rows sum ∙ whole_from ws sum rows is as_many
+
+  pub counts : all_count (counting_of sum rows) ≤ 4000000000 → Counts ws (counting_of sum rows)
+  counts light = record {
+    each = λ w. counts_with-cond (eqb sum 0) rows sum w ∙ ap (λ s. counts_as s w) is;
+    sum = counting_sum;
+    light = light;
+  }
+
+  -- how the rows count, or none where they pass the limit
+  pub counted_within : (r : Option Counting) → r ≡ then_some (leb (all_count (counting_of sum rows)) 4000000000) (counting_of sum rows) → MatchOption r (4000000000 < whole ws) (Counts ws)
+  counted_within r e = rw e (elim (leb_tells (all_count (counting_of sum rows)) 4000000000) [
+    | inl h ↦ rw h.0 (counts h.1)
+    | inr h ↦ rw h.0 (omega (arith, counting_sum))
+  ])

@@ -1,29 +1,47 @@
 //! How rows count: each with its weight, or all with 1.
-ghost use Rattle.std.specs.Prelude.{◌≡◌, ◌<◌, map, if◌then◌else◌, MatchOption, ◌==◌, nat_eq};
+ghost use Rattle.std.specs.Prelude.{◌≡◌, ◌<◌, map, MatchOption};
 ghost use Rattle.sharing.specs.Shares.{whole};
-ghost use Rattle.sharing.specs.Counts.{Counts};
+ghost use Rattle.sharing.specs.Counts.{Counts, all_count, counting_of, counts_with};
 
 use crate::rows::{LARGEST_WEIGHT_SUM, Weighted, weigh};
 
-// Whether each row counts with 1, as where all weights are 0, and the sum of the counted weights.
-#[derive(Clone, Copy)]
-pub(crate) struct Counting {
-    pub(crate) equal: bool,
-    pub(crate) sum: u64,
+// Each row counts with 1, as where all weights are 0, or with its weight; the sum is that of all weights.
+#[derive(Clone, Copy, Debug, PartialEq, Eq)]
+pub(crate) enum Counting {
+    Equal { rows: u64 },
+    ByWeight { sum: u64 },
 }
 
-// How so many rows count whose weights add to `sum`.
-fn counting_of(sum: u64, rows: usize) -> Counting
-    ensures equal { result.equal ≡ (sum == 0) }
-    ensures sum { result.sum ≡ (if nat_eq sum 0 then rows else sum) }
-{
-    if sum == 0 {
-        Counting {
-            equal: true,
-            sum: rows as u64,
+impl Counting {
+    // How so many rows count whose weights add to `sum`.
+    fn new(sum: u64, rows: usize) -> Counting
+        ensures { result ≡ counting_of sum rows }
+    {
+        if sum == 0 {
+            Counting::Equal { rows: rows as u64 }
+        } else {
+            Counting::ByWeight { sum }
         }
-    } else {
-        Counting { equal: false, sum }
+    }
+
+    // What all rows count.
+    pub(crate) fn sum(self) -> u64
+        ensures { result ≡ all_count self }
+    {
+        match self {
+            Counting::Equal { rows } => rows,
+            Counting::ByWeight { sum } => sum,
+        }
+    }
+
+    // What a row counts with.
+    pub(crate) fn weight<R: Weighted>(self, row: &R) -> u64
+        ensures { result ≡ counts_with self (R.weighs row.now) }
+    {
+        match self {
+            Counting::Equal { .. } => 1,
+            Counting::ByWeight { .. } => row.weight(),
+        }
     }
 }
 
@@ -31,17 +49,6 @@ fn counting_of(sum: u64, rows: usize) -> Counting
 pub(crate) fn count<R: Weighted>(rows: &[R]) -> Option<Counting>
     ensures { MatchOption result (4000000000 < whole (map R.weighs rows.now)) (Counts (map R.weighs rows.now)) }
 {
-    let sum = weigh(rows)?;
-    let counting = counting_of(sum, rows.len());
-    if counting.sum > LARGEST_WEIGHT_SUM {
-        return None;
-    }
-    Some(counting)
-}
-
-// What a row counts with.
-pub(crate) fn counted_weight<R: Weighted>(row: &R, equal: bool) -> u64
-    ensures { result ≡ (if equal then 1 else R.weighs row.now) }
-{
-    if equal { 1 } else { row.weight() }
+    let counting = Counting::new(weigh(rows)?, rows.len());
+    (counting.sum() <= LARGEST_WEIGHT_SUM).then_some(counting)
 }

@@ -2,7 +2,7 @@
 ghost use Rattle.std.specs.Prelude.{◌≡◌};
 ghost use Rattle.sharing.specs.Faults.{number_of};
 
-#[derive(Clone, Copy)]
+#[derive(Clone, Copy, Debug, PartialEq, Eq)]
 pub enum SharingFault {
     // the memory has too few places for the rows
     Room,
@@ -11,6 +11,7 @@ pub enum SharingFault {
 }
 
 impl SharingFault {
+    // The number that the office knows the refusal by.
     pub fn number(&self) -> u8
         ensures { result ≡ number_of self.now }
     {

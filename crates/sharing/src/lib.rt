@@ -7,11 +7,13 @@ mod fault;
 mod keeping;
 pub mod laws;
 mod rows;
+mod sharing;
 
-pub use amount::{LARGEST_AMOUNT, share};
+pub use amount::{Amount, LARGEST_AMOUNT};
 pub use fault::SharingFault;
 pub use keeping::{Keeping, Plain};
 pub use rows::{LARGEST_WEIGHT_SUM, Receiving, Weighted, weigh};
+pub use sharing::share;
 
 #[cfg(test)]
 mod tests;

@@ -21,22 +21,20 @@ pub trait Receiving: Weighted {
 // Rows whose counted weights add to more are not shared over.
 pub const LARGEST_WEIGHT_SUM: u64 = 4_000_000_000;
 
-// A sum with one more weight, unless it is then above `LARGEST_WEIGHT_SUM`. In this form no sum overflows.
+// A sum with one more weight, unless it is then above `LARGEST_WEIGHT_SUM`.
 fn added(sum: u64, weight: u64) -> Option<u64>
-    requires { sum ≤ 4000000000 }
     ensures { MatchOption result (4000000000 < sum + weight) (λ n. (n ≡ sum + weight) × (n ≤ 4000000000)) }
 {
-    if weight > LARGEST_WEIGHT_SUM - sum {
-        return None;
-    }
-    Some(sum + weight)
+    sum.checked_add(weight)
+        .filter(|sum| *sum <= LARGEST_WEIGHT_SUM)
 }
 
 // The sum of the weights, unless it is above `LARGEST_WEIGHT_SUM`.
+#[tactic(auto, using(crate::proofs::Totals::total_next))]
 pub fn weigh<R: Weighted>(rows: &[R]) -> Option<u64>
     ensures { MatchOption result (4000000000 < total (map R.weighs rows.now)) (λ n. (n ≡ total (map R.weighs rows.now)) × (n ≤ 4000000000)) }
 {
-    let mut sum: u64 = 0;
+    let mut sum = 0;
     for row in rows {
         sum = added(sum, row.weight())?;
     }

@@ -21,12 +21,11 @@ fn row(weight: u64) -> Key {
     Key { weight }
 }
 
-// The number of the refusal, or 0.
-fn refusal(amount: u64, rows: &[Key], out: &mut [i64], at: usize) -> u8 {
-    match share(amount, rows, &Plain, out, at) {
-        Ok(()) => 0,
-        Err(fault) => fault.number(),
-    }
+// The number of the refusal, if there is one.
+fn refusal(amount: u64, rows: &[Key], out: &mut [i64], at: usize) -> Option<u8> {
+    share(amount, rows, &Plain, out, at)
+        .err()
+        .map(|fault| fault.number())
 }
 
 #[test]
@@ -34,7 +33,7 @@ fn three_keys(rt: HostRuntime) {
     let mut out = [9i64; 5];
     assert_eq!(rt;
         refusal(1_000, &[row(5_000), row(2_785), row(2_215)], &mut out, 1),
-        0
+        None
     );
     assert_eq!(rt; out, [9, 500, 278, 222, 9]);
 }
@@ -42,9 +41,9 @@ fn three_keys(rt: HostRuntime) {
 #[test]
 fn two_rows(rt: HostRuntime) {
     let mut out = [9i64; 6];
-    assert_eq!(rt; refusal(101, &[row(5_000), row(5_000)], &mut out, 0), 0);
-    assert_eq!(rt; refusal(5, &[row(0), row(0)], &mut out, 2), 0);
-    assert_eq!(rt; refusal(0, &[row(7), row(0)], &mut out, 4), 0);
+    assert_eq!(rt; refusal(101, &[row(5_000), row(5_000)], &mut out, 0), None);
+    assert_eq!(rt; refusal(5, &[row(0), row(0)], &mut out, 2), None);
+    assert_eq!(rt; refusal(0, &[row(7), row(0)], &mut out, 4), None);
     assert_eq!(rt; out, [50, 51, 2, 3, 0, 0]);
 }
 
@@ -52,13 +51,19 @@ fn two_rows(rt: HostRuntime) {
 fn refusals(rt: HostRuntime) {
     let mut out = [9i64; 2];
     let rows = [row(LARGEST_WEIGHT_SUM), row(1)];
-    assert_eq!(rt; refusal(LARGEST_AMOUNT + 1, &rows, &mut out, 1), 11);
-    assert_eq!(rt; refusal(LARGEST_AMOUNT + 1, &rows[..1], &mut out, 0), 12);
-    assert_eq!(rt; refusal(1, &rows, &mut out, 0), 12);
-    assert_eq!(rt; refusal(1, &[row(1), row(u64::MAX)], &mut out, 0), 12);
-    assert_eq!(rt; refusal(1, &rows[..0], &mut out, 3), 11);
-    assert_eq!(rt; refusal(LARGEST_AMOUNT + 1, &rows[..0], &mut out, 2), 12);
-    assert_eq!(rt; refusal(LARGEST_AMOUNT, &rows[..0], &mut out, 2), 0);
+    assert_eq!(rt; refusal(LARGEST_AMOUNT + 1, &rows, &mut out, 1), Some(11));
+    assert_eq!(rt;
+        refusal(LARGEST_AMOUNT + 1, &rows[..1], &mut out, 0),
+        Some(12)
+    );
+    assert_eq!(rt; refusal(1, &rows, &mut out, 0), Some(12));
+    assert_eq!(rt; refusal(1, &[row(1), row(u64::MAX)], &mut out, 0), Some(12));
+    assert_eq!(rt; refusal(1, &rows[..0], &mut out, 3), Some(11));
+    assert_eq!(rt;
+        refusal(LARGEST_AMOUNT + 1, &rows[..0], &mut out, 2),
+        Some(12)
+    );
+    assert_eq!(rt; refusal(LARGEST_AMOUNT, &rows[..0], &mut out, 2), None);
     assert_eq!(rt; out, [9, 9]);
 }
 
@@ -76,7 +81,7 @@ fn region_hour(rt: HostRuntime) {
         row(0),
         row(162_627),
     ];
-    assert_eq!(rt; refusal(2_719_042, &rows, &mut out, 0), 0);
+    assert_eq!(rt; refusal(2_719_042, &rows, &mut out, 0), None);
     let mut first_five = 0i64;
     for share in out.iter().take(5) {
         first_five = first_five.saturating_add(*share);

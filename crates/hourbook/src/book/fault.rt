@@ -1,16 +1,18 @@
 //! Why a call of the book is refused.
 ghost use Rattle.std.specs.Prelude.{◌≡◌};
-ghost use Rattle.hourbook.specs.BookFaults.{layer_of, number_of, place_of};
+ghost use Rattle.hourbook.specs.BookFaults.{notice_of};
 ghost use Rattle.hourbook.specs.declared.book.fault.BookFault.TheVariants.{Settlement};
 ghost use Rattle.hourbook.specs.declared.region.fault.RegionFault.TheVariants.{File};
 ghost use Rattle.hourbook.specs.declared.settlement.fault.SettlementFault.TheVariants.{Region};
 
 use crate::book::Refusal;
 use crate::hourfile::fault::FileFault;
+use crate::notice::Notice;
 use crate::region::fault::RegionFault;
 use crate::settlement::fault::SettlementFault;
+use std::fmt;
 
-#[derive(Clone, Copy)]
+#[derive(Clone, Copy, Debug, PartialEq, Eq, Hash)]
 pub(crate) enum BookFault {
     Settlement(SettlementFault),
     // entry memory is shorter than the used entries
@@ -30,11 +32,11 @@ pub(crate) enum BookFault {
 }
 
 impl BookFault {
-    pub(crate) fn number(&self) -> u8
-        ensures { result ≡ number_of self.now }
+    pub(crate) fn notice(&self) -> Notice
+        ensures { result ≡ notice_of self.now }
     {
-        match self {
-            BookFault::Settlement(fault) => fault.number(),
+        let number = match self {
+            BookFault::Settlement(fault) => return fault.notice(),
             BookFault::Entries => 13,
             BookFault::Settled => 14,
             BookFault::Hour => 15,
@@ -42,25 +44,18 @@ impl BookFault {
             BookFault::Owner => 18,
             BookFault::Full => 20,
             BookFault::Statement => 21,
+        };
+        Notice {
+            number,
+            layer: 4,
+            place: 0,
         }
     }
+}
 
-    pub(crate) fn layer(&self) -> u8
-        ensures { result ≡ layer_of self.now }
-    {
-        match self {
-            BookFault::Settlement(fault) => fault.layer(),
-            _ => 4,
-        }
-    }
-
-    pub(crate) fn place(&self) -> usize
-        ensures { result ≡ place_of self.now }
-    {
-        match self {
-            BookFault::Settlement(fault) => fault.place(),
-            _ => 0,
-        }
+impl fmt::Display for BookFault {
+    fn fmt<W: fmt::Write>(&self, f: &mut fmt::Formatter<W>) -> fmt::Result {
+        self.notice().fmt(f)
     }
 }
 
@@ -77,7 +72,7 @@ impl From<FileFault> for BookFault {
     ghost from_gives = { λ e r. r ≡ Settlement (Region (File e)) };
 
     fn from(e: FileFault) -> BookFault {
-        BookFault::Settlement(SettlementFault::Region(RegionFault::File(e)))
+        BookFault::from(SettlementFault::from(RegionFault::from(e)))
     }
 }
 

@@ -1,10 +1,10 @@
 //! The credits of a settled hour.
-ghost use Rattle.std.specs.Prelude.{◌≡◌, ◌≤◌};
+ghost use Rattle.std.specs.Prelude.{◌≡◌};
 ghost use Rattle.hourbook.specs.Rows.{credit_row, directed};
 
 use crate::entry::kind::EntryKind;
 use crate::entry::row::Row;
-use sharing::{Keeping, Receiving};
+use sharing::{Amount, Keeping, Receiving};
 
 // The hour and the region that an entry comes from.
 #[derive(Clone, Copy, Debug, PartialEq, Eq)]
@@ -22,13 +22,13 @@ pub(crate) enum Direction {
 
 impl Direction {
     // A share as an amount.
-    fn amount(self, share: u32) -> i32
-        requires { share ≤ 2000000000 }
-        ensures { result ≡ directed self share }
+    fn amount(self, share: Amount) -> i32
+        ensures { result ≡ directed self share.cents }
     {
+        let cents = share.cents() as i32;
         match self {
-            Direction::Received => share as i32,
-            Direction::Borne => -(share as i32),
+            Direction::Received => cents,
+            Direction::Borne => -cents,
         }
     }
 }
@@ -46,7 +46,7 @@ pub(crate) struct Credit {
 impl<R: Receiving> Keeping<R, Row> for Credit {
     ghost cell = { λ c row share. credit_row c.origin c.line c.leg (R.Receiving.receives row) (directed c.direction share) };
 
-    fn keep(&self, row: &R, share: u32) -> Row {
+    fn keep(&self, row: &R, share: Amount) -> Row {
         Row {
             hour: self.origin.hour,
             amount: self.direction.amount(share),

@@ -1,12 +1,13 @@
 //! What is wrong with an hour file.
 ghost use Rattle.std.specs.Prelude.{◌≡◌};
-ghost use Rattle.hourbook.specs.FileFaults.{layer_of, number_of, place_of};
+ghost use Rattle.hourbook.specs.FileFaults.{notice_of};
 ghost use Rattle.hourbook.specs.declared.hourfile.fault.FileFault.TheVariants.{Memory};
 
+use crate::notice::Notice;
 use std::alloc::{AllocError, AllocFailed};
 
 // The first rule that the file breaks, and where. `place` counts records from 1, and is 0 where no record is at fault.
-#[derive(Clone, Copy, Debug, PartialEq)]
+#[derive(Clone, Copy, Debug, PartialEq, Eq, Hash)]
 pub(crate) enum FileFault {
     // no memory for the tables of a lawful file
     Memory,
@@ -20,43 +21,28 @@ pub(crate) enum FileFault {
 }
 
 impl FileFault {
-    pub(crate) fn number(&self) -> u8
-        ensures { result ≡ number_of self.now }
+    pub(crate) fn notice(&self) -> Notice
+        ensures { result ≡ notice_of self.now }
     {
-        match self {
-            FileFault::Memory => 0,
-            FileFault::Unread { .. } => 1,
-            FileFault::Order { .. } => 2,
-            FileFault::Count { .. } => 3,
-            FileFault::Range { .. } => 4,
-            FileFault::Name { .. } => 5,
-            FileFault::Contribution { .. } => 6,
-            FileFault::Keys { .. } => 7,
-        }
-    }
-
-    pub(crate) fn layer(&self) -> u8
-        ensures { result ≡ layer_of self.now }
-    {
-        1
-    }
-
-    pub(crate) fn place(&self) -> usize
-        ensures { result ≡ place_of self.now }
-    {
-        match self {
-            FileFault::Memory => 0,
-            FileFault::Unread { place } => *place,
-            FileFault::Order { place } => *place,
-            FileFault::Count { place } => *place,
-            FileFault::Range { place } => *place,
-            FileFault::Name { place } => *place,
-            FileFault::Contribution { line } => *line,
-            FileFault::Keys { leg } => *leg,
+        let (number, place) = match *self {
+            FileFault::Memory => (0, 0),
+            FileFault::Unread { place } => (1, place),
+            FileFault::Order { place } => (2, place),
+            FileFault::Count { place } => (3, place),
+            FileFault::Range { place } => (4, place),
+            FileFault::Name { place } => (5, place),
+            FileFault::Contribution { line } => (6, line),
+            FileFault::Keys { leg } => (7, leg),
+        };
+        Notice {
+            number,
+            layer: 1,
+            place,
         }
     }
 }
 
+// `thiserror` would write these conversions, but with no `from_gives`, and clauses name the fault that a `?` makes.
 impl From<AllocError> for FileFault {
     ghost from_gives = { λ _ r. r ≡ Memory };
 

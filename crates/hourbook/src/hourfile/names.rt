@@ -1,11 +1,14 @@
 //! Which zones, lines and legs an hour file names.
-ghost use Rattle.std.specs.Prelude.{◌≡◌, true, Decides};
+ghost use Rattle.std.specs.Prelude.{◌≡◌, true, false, Decides};
 ghost use Rattle.hourbook.specs.Naming.{BorderNamed, FactorNamed, LegNamed, LossNamed, Named, factor_noted, leg_noted, loss_noted, none_named, noted};
 ghost use Rattle.hourbook.specs.Numbering.{Numbered};
+ghost use Rattle.hourbook.specs.declared.hourfile.fault.FileFault.TheVariants.{Name};
 
 use crate::hourfile::census::Census;
+use crate::hourfile::fault::FileFault;
 use crate::hourfile::method::Method;
 use crate::hourfile::record::{BorderRecord, FactorRecord, LegRecord, LossRecord, Record};
+use crate::hourfile::rule::Rule;
 
 // What the records so far have said: the line of each of at most 64 legs, by leg and zone which factors have come,
 // and by line which losses.
@@ -38,21 +41,6 @@ impl Names {
         }
     }
 
-    // Whether the record names only what is there, and nothing twice that comes once.
-    pub(crate) fn admits(&mut self, record: &Record) -> bool
-        ensures test { Decides result (Named self.old «record».now) }
-        ensures after { result ≡ true → self.new ≡ noted self.old «record».now }
-    {
-        match record {
-            Record::Border(border) => self.names_zones(border),
-            Record::Leg(leg) => self.note_leg(leg),
-            Record::Factor(factor) => self.note_factor(factor),
-            Record::Loss(loss) => self.note_loss(loss),
-            Record::Owner(owner) => is_numbered(owner.leg, self.census.legs),
-            Record::Header(_) | Record::Zone(_) | Record::End => true,
-        }
-    }
-
     fn names_zones(&self, border: &BorderRecord) -> bool
         ensures { Decides result (BorderNamed self.now.census border.now) }
     {
@@ -66,6 +54,7 @@ impl Names {
     fn note_leg(&mut self, leg: &LegRecord) -> bool
         ensures test { Decides result (LegNamed self.old leg.now) }
         ensures after { result ≡ true → self.new ≡ leg_noted self.old leg.now }
+        ensures same { result ≡ false → self.new ≡ self.old }
     {
         if self.legs >= self.census.legs || !is_numbered(leg.line, self.census.lines()) {
             return false;
@@ -79,6 +68,7 @@ impl Names {
     fn note_factor(&mut self, factor: &FactorRecord) -> bool
         ensures test { Decides result (FactorNamed self.old factor.now) }
         ensures after { result ≡ true → self.new ≡ factor_noted self.old factor.now }
+        ensures same { result ≡ false → self.new ≡ self.old }
     {
         let census = self.census;
         if census.method != Method::FlowBased
@@ -99,6 +89,7 @@ impl Names {
     fn note_loss(&mut self, loss: &LossRecord) -> bool
         ensures test { Decides result (LossNamed self.old loss.now) }
         ensures after { result ≡ true → self.new ≡ loss_noted self.old loss.now }
+        ensures same { result ≡ false → self.new ≡ self.old }
     {
         if !is_numbered(loss.line, self.census.lines()) {
             return false;
@@ -109,5 +100,28 @@ impl Names {
         }
         self.losses[line] = true;
         true
+    }
+}
+
+impl Rule for Names {
+    ghost passes = { Named };
+
+    ghost after = { noted };
+
+    ghost fault = { Name };
+
+    fn fault_at(place: usize) -> FileFault {
+        FileFault::Name { place }
+    }
+
+    fn admits(&mut self, record: &Record) -> bool {
+        match record {
+            Record::Border(border) => self.names_zones(border),
+            Record::Leg(leg) => self.note_leg(leg),
+            Record::Factor(factor) => self.note_factor(factor),
+            Record::Loss(loss) => self.note_loss(loss),
+            Record::Owner(owner) => is_numbered(owner.leg, self.census.legs),
+            Record::Header(_) | Record::Zone(_) | Record::End => true,
+        }
     }
 }

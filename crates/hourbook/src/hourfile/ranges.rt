@@ -1,12 +1,15 @@
 //! The ranges of the numbers of an hour file.
 ghost use Rattle.std.specs.Prelude.{Decides};
 ghost use Rattle.hourbook.specs.Lawful.{CapacityInRange, InRange};
+ghost use Rattle.hourbook.specs.declared.hourfile.fault.FileFault.TheVariants.{Range};
 
 use crate::hourfile::border::Capacity;
+use crate::hourfile::fault::FileFault;
 use crate::hourfile::method::Method;
 use crate::hourfile::position::NetPosition;
 use crate::hourfile::price::Price;
 use crate::hourfile::record::{BorderRecord, Record};
+use crate::hourfile::rule::Rule;
 
 const REGIONS: u8 = 32;
 
@@ -17,6 +20,28 @@ const LARGEST_LOSS: u16 = 1_000;
 const OWNERS: u8 = 64;
 
 const LARGEST_KEY: u16 = 10_000;
+
+// The ranges of a file of this method.
+#[derive(Clone, Copy, Debug, PartialEq, Eq)]
+pub(crate) struct Ranges {
+    pub(crate) method: Method,
+}
+
+impl Rule for Ranges {
+    ghost passes = { λ s r. InRange s.method r };
+
+    ghost after = { λ s _. s };
+
+    ghost fault = { Range };
+
+    fn fault_at(place: usize) -> FileFault {
+        FileFault::Range { place }
+    }
+
+    fn admits(&mut self, record: &Record) -> bool {
+        record.in_range(self.method)
+    }
+}
 
 impl Record {
     // Whether every number of the record lies in its range, in a file of this method.

@@ -1,12 +1,13 @@
 //! What is wrong with a region.
 ghost use Rattle.std.specs.Prelude.{◌≡◌};
-ghost use Rattle.hourbook.specs.RegionFaults.{layer_of, number_of, place_of};
+ghost use Rattle.hourbook.specs.RegionFaults.{notice_of};
 ghost use Rattle.hourbook.specs.declared.region.fault.RegionFault.TheVariants.{File, Unsound};
 
 use crate::hourfile::fault::FileFault;
+use crate::notice::Notice;
 
 // Why a region is not sound: no other verdict is possible.
-#[derive(Clone, Copy)]
+#[derive(Clone, Copy, Debug, PartialEq, Eq, Hash)]
 pub(crate) enum Flaw {
     // net positions do not add to 0, or differ from the flows of their zone
     Imbalance,
@@ -14,38 +15,25 @@ pub(crate) enum Flaw {
     Excess,
 }
 
-#[derive(Clone, Copy)]
+#[derive(Clone, Copy, Debug, PartialEq, Eq, Hash)]
 pub(crate) enum RegionFault {
     File(FileFault),
     Unsound(Flaw),
 }
 
 impl RegionFault {
-    pub(crate) fn number(&self) -> u8
-        ensures { result ≡ number_of self.now }
+    pub(crate) fn notice(&self) -> Notice
+        ensures { result ≡ notice_of self.now }
     {
-        match self {
-            RegionFault::File(fault) => fault.number(),
+        let number = match self {
+            RegionFault::File(fault) => return fault.notice(),
             RegionFault::Unsound(Flaw::Imbalance) => 8,
             RegionFault::Unsound(Flaw::Excess) => 9,
-        }
-    }
-
-    pub(crate) fn layer(&self) -> u8
-        ensures { result ≡ layer_of self.now }
-    {
-        match self {
-            RegionFault::File(fault) => fault.layer(),
-            RegionFault::Unsound(_) => 2,
-        }
-    }
-
-    pub(crate) fn place(&self) -> usize
-        ensures { result ≡ place_of self.now }
-    {
-        match self {
-            RegionFault::File(fault) => fault.place(),
-            RegionFault::Unsound(_) => 0,
+        };
+        Notice {
+            number,
+            layer: 2,
+            place: 0,
         }
     }
 }

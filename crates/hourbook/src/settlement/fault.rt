@@ -1,12 +1,13 @@
 //! Why a settlement is refused.
 ghost use Rattle.std.specs.Prelude.{◌≡◌};
-ghost use Rattle.hourbook.specs.SettlementFaults.{layer_of, number_of, place_of};
+ghost use Rattle.hourbook.specs.SettlementFaults.{notice_of};
 ghost use Rattle.hourbook.specs.declared.region.fault.RegionFault.TheVariants.{Unsound};
 ghost use Rattle.hourbook.specs.declared.settlement.fault.SettlementFault.TheVariants.{Region};
 
+use crate::notice::Notice;
 use crate::region::fault::{Flaw, RegionFault};
 
-#[derive(Clone, Copy)]
+#[derive(Clone, Copy, Debug, PartialEq, Eq, Hash)]
 pub(crate) enum SettlementFault {
     Region(RegionFault),
     // table and region differ in their number of lines
@@ -18,32 +19,19 @@ pub(crate) enum SettlementFault {
 }
 
 impl SettlementFault {
-    pub(crate) fn number(&self) -> u8
-        ensures { result ≡ number_of self.now }
+    pub(crate) fn notice(&self) -> Notice
+        ensures { result ≡ notice_of self.now }
     {
-        match self {
-            SettlementFault::Region(fault) => fault.number(),
+        let number = match self {
+            SettlementFault::Region(fault) => return fault.notice(),
             SettlementFault::Lines => 10,
             SettlementFault::Work => 11,
             SettlementFault::Limit => 12,
-        }
-    }
-
-    pub(crate) fn layer(&self) -> u8
-        ensures { result ≡ layer_of self.now }
-    {
-        match self {
-            SettlementFault::Region(fault) => fault.layer(),
-            SettlementFault::Lines | SettlementFault::Work | SettlementFault::Limit => 3,
-        }
-    }
-
-    pub(crate) fn place(&self) -> usize
-        ensures { result ≡ place_of self.now }
-    {
-        match self {
-            SettlementFault::Region(fault) => fault.place(),
-            SettlementFault::Lines | SettlementFault::Work | SettlementFault::Limit => 0,
+        };
+        Notice {
+            number,
+            layer: 3,
+            place: 0,
         }
     }
 }
@@ -61,6 +49,6 @@ impl From<Flaw> for SettlementFault {
     ghost from_gives = { λ e r. r ≡ Region (Unsound e) };
 
     fn from(e: Flaw) -> SettlementFault {
-        SettlementFault::Region(RegionFault::Unsound(e))
+        SettlementFault::from(RegionFault::from(e))
     }
 }

@@ -1,7 +1,7 @@
 use Rattle.std.proofs.Common.{◌≡◌, length, vec_items, vec_len, ap, ◌∙◌, subst, arith}
 use Rattle.std.specs.List.{flat_map}
 use Rattle.std.proofs.lemmas.List.{with_items_is}
-use Rattle.std.proofs.lemmas.Result.{err_from_is_err_and}
+use Rattle.std.proofs.lemmas.Result.{IfOk-weaker}
 use Rattle.hourbook.specs.declared.hourfile.loss_table.LossTable.{LossTable}
 use Rattle.hourbook.specs.declared.hourfile.network.Network.{Network}
 use Rattle.hourbook.specs.declared.hourfile.prices.Prices.{Prices}
@@ -12,16 +12,6 @@ use Rattle.hourbook.specs.LossRule.{losses_means}
 use Rattle.hourbook.specs.Meaning.{Meaning}
 use Rattle.hourbook.specs.Tables.{cents_of, tenths_of}
 use Rattle.hourbook.proofs.hour.stated.Goals as goal
-
-pub returns-in_err-book : goal.returns-in_err-book
-returns-in_err-book c =
-    let p = err_from_is_err_and c.from_residual-in_err-book.result c.from_residual-in_err-book.ensures.1 in
-    rw p.1 tt
-
-pub returns-in_err-text : goal.returns-in_err-text
-returns-in_err-text c =
-    let p = err_from_is_err_and c.from_residual-in_err-text.result c.from_residual-in_err-text.ensures.1 in
-    rw p.1 tt
 
 abbrev below_means : Coordinated → Meaning
 below_means b = coordinated_means (cents_of (vec_items b.prices.now.list)) (tenths_of (vec_items b.network.now.positions)) (vec_items b.network.now.borders) b.flaw
@@ -37,20 +27,25 @@ layered held below kept table n p e f g h =
 
 pub returns : goal.returns
 returns c =
-    let told = c.in-Some.ensures in
+    let below = c.in_ok-below.below in
+    let told = rw c.in_ok-below.ensures.ok_part at c.of.ensures in
     let file = c.args.file in
-    let same = layered c.over-region.result.below c.in-Some.below c.over-region.result.table file.losses file.network file.prices c.over-region.ensures.0 c.over-region.ensures.1 told.0 told.1 in
-    let long : length c.posted.new.memory ≡ vec_len c.in_ok-memory.memory = omega (arith, c.posted.auto.memory, c.deref_mut.ensures.len) in
-    let back = with_items_is c.in_ok-memory.memory c.posted.new.memory long in
-    record {
-      flaw = c.in-Some.below.flaw;
+    let used = c.in_ok-book.book.used in
+    let before = c.deref_mut.result.now in
+    let after = c.posted.new.memory in
+    let same = layered c.over-region.result.below below c.over-region.result.table file.losses file.network file.prices c.over-region.ensures.0 c.over-region.ensures.1 told.0 told.1 in
+    let long : length after ≡ vec_len c.in_ok-memory.memory = omega (arith, c.posted.auto.memory, c.deref_mut.ensures.len) in
+    let posted = subst (λ m. Posted m file.ownership file.hour used before after) same c.in_ok-book.ensures in
+    let memory = c.deref.ensures.value ∙ with_items_is c.in_ok-memory.memory after long in
+    IfOk-weaker c.pages.result _ _ (λ t pages. record {
+      flaw = below.flaw;
       judged = told.2;
-      used = c.in_ok-book.book.used;
-      before = c.deref_mut.result.now;
-      after = c.posted.new.memory;
-      posted = subst (λ m. Posted m file.ownership file.hour c.in_ok-book.book.used c.deref_mut.result.now c.posted.new.memory) same c.in_ok-book.ensures;
+      used = used;
+      before = before;
+      after = after;
+      posted = posted;
       stated =
-          c.in_ok-text.ensures
-          ∙ (ap (λ m. flat_map (page_of c.in_ok-book.book.used m) c.as_slice-2.result.now) (c.as_slice.ensures.value ∙ back)
-          ∙ ap (flat_map (page_of c.in_ok-book.book.used c.posted.new.memory)) c.as_slice-2.ensures.value);
-    }
+          pages
+          ∙ (ap (λ m. flat_map (page_of used m) c.deref-2.result.now) memory
+          ∙ ap (flat_map (page_of used after)) c.deref-2.ensures.value);
+    }) c.pages.ensures
