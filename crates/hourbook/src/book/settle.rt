@@ -33,7 +33,7 @@ impl OpenBook {
         if places < used {
             return Err(BookFault::Entries);
         }
-        if is_settled(self.settled, table.region) {
+        if is_settled(self.settled, table.region.get()) {
             return Err(BookFault::Settled);
         }
         if places.min(PLACES) < used + entries_needed(income, table) {
@@ -60,7 +60,7 @@ impl OpenBook {
         let income = self.judge_settle(region, table, work.len(), memory.len())?;
         let origin = Origin {
             hour: self.hour,
-            region: table.region,
+            region: table.region.get(),
         };
         write(
             region,
@@ -71,7 +71,7 @@ impl OpenBook {
             memory,
             self.used as usize,
         );
-        self.settled = with_settled(self.settled, table.region);
+        self.settled = with_settled(self.settled, table.region.get());
         self.used += entries_needed(income, table) as u32;
         Ok(income)
     }

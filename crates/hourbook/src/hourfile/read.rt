@@ -20,7 +20,7 @@ pub(crate) fn read(heap: Global, bytes: &[u8]) -> Result<HourFile, FileFault>
     ensures { IfOk result (Describes bytes.now) }
 {
     let census = judge(bytes)?;
-    let gathered = Gathered::of(heap, bytes, census)?;
+    let gathered = Gathered::from_bytes(heap, bytes, census)?;
     tables_of(heap, census, gathered)
 }
 
@@ -49,8 +49,8 @@ fn tables_of(heap: Global, census: Census, gathered: Gathered) -> Result<HourFil
     Ok(HourFile {
         hour: census.hour,
         network,
-        prices: Prices::new(prices),
-        losses: LossTable::new(losses),
+        prices: Prices::from(prices),
+        losses: LossTable::from(losses),
         ownership,
     })
 }
