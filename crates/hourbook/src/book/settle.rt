@@ -57,7 +57,7 @@ impl OpenBook {
         let income = self.judge_settle(region, table, work.len(), memory)?;
         let origin = Origin {
             hour: self.hour,
-            region: table.region,
+            region: table.region.get(),
         };
         write(
             region,
