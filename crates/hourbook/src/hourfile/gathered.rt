@@ -50,7 +50,11 @@ impl Gathered {
     }
 
     // The records of a lawful file. Numbers are tested again on the way, since tables hold only such as are lawful.
-    pub(crate) fn of(heap: Global, bytes: &[u8], census: Census) -> Result<Gathered, FileFault>
+    pub(crate) fn from_bytes(
+        heap: Global,
+        bytes: &[u8],
+        census: Census,
+    ) -> Result<Gathered, FileFault>
         ensures { IfOk result (λ g. Collected bytes.now (census_lines census) (said g)) }
     {
         let mut gathered = Gathered::new(heap, census)?;
