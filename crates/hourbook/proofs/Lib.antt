@@ -11,7 +11,6 @@ pub mod Texts
 pub mod Owns
 pub mod Stands
 pub mod BitLaws
-pub mod Kept
 pub mod Collect
 pub mod Passing
 pub mod Sequences

@@ -1,8 +1,7 @@
 -- The k-th of mapped and paired lists. Assumes nothing.
-use Rattle.std.proofs.Common.{◌≡◌, ℕ, zero, suc, ◌-◌, ◌<◌, ◌≤◌, List, [], ◌∷◌, map, length, get_or, ℤ, pos, Some, None, sym, refl, ap, ◌∙◌, arith}
+use Rattle.std.proofs.Common.{◌≡◌, ℕ, zero, suc, ◌<◌, ◌≤◌, List, [], ◌∷◌, map, length, get_or, ℤ, Some, None, sym, refl, ap, ◌∙◌, arith}
 use Rattle.std.specs.List.{slice_get}
-use Rattle.std.proofs.lemmas.List.{get_or-map, get_or_past, length-map}
-use Rattle.hourbook.specs.Tables.{Price, NetPosition, cents_of, tenths_of, price_at}
+use Rattle.hourbook.specs.Tables.{Price, NetPosition, cents_of, tenths_of}
 use Rattle.hourbook.specs.Coordinated.{zones_of}
 
 pub nth-map_at : {X Y : Type 0} (f : X → Y) (xs : List X) (k : ℕ) (x : X) → k < length xs → x ≡ get_or xs k x → slice_get (map f xs) k ≡ Some (f x)
@@ -40,16 +39,3 @@ zones_length [] [] h = refl
 zones_length [] (n ∷ ns) h = absurd (omega arith)
 zones_length (p ∷ ps) [] h = refl
 zones_length (p ∷ ps) (n ∷ ns) h = ap suc (zones_length ps ns (omega arith))
-
--- the price of a zone is read at the place before its number
-module _ (xs ps : List Price) (k zone : ℕ) (same : xs ≡ ps) (place : k ≡ zone - 1) where
-  pub price_read : (p : Price) → k < length xs → p ≡ get_or xs k p → p.value ≡ price_at (cents_of ps) zone
-  price_read p h read =
-      ap (λ (q : Price). q.value) read
-      ∙ (sym (get_or-map (λ (q : Price). q.value) xs k p (pos 0) h)
-      ∙ (ap (λ n. get_or (cents_of xs) n (pos 0)) place ∙ ap (λ l. price_at (cents_of l) zone) same))
-
-  pub price_none : length xs ≤ k → pos 0 ≡ price_at (cents_of ps) zone
-  price_none h =
-      sym (get_or_past (cents_of xs) k (pos 0) (omega (arith, length-map xs (λ (q : Price). q.value))))
-      ∙ (ap (λ n. get_or (cents_of xs) n (pos 0)) place ∙ ap (λ l. price_at (cents_of l) zone) same)
