@@ -3,31 +3,19 @@ use Rattle.std.specs.Prelude.{Some, None, Option, ◌≡◌, ℕ, ◌-◌, ◌<�
 use Rattle.hourbook.specs.declared.hourfile.fault.FileFault.{FileFault}
 use Rattle.hourbook.specs.declared.hourfile.fault.FileFault.TheVariants.{Contribution, Keys}
 use Rattle.hourbook.specs.declared.hourfile.«record».Record.{Record}
-use Rattle.hourbook.specs.declared.hourfile.«record».Record.TheVariants.{Header, Zone, Border, Leg, Factor, Loss, Owner, End}
+use Rattle.hourbook.specs.declared.hourfile.«record».Record.TheVariants.{Leg, Owner}
 use Rattle.hourbook.specs.Numbering.{Numbered}
 use Rattle.hourbook.specs.Passes.{Passed}
 
 -- what a record contributes to line n
 abbrev pub contribution_to : ℕ → Record → ℕ
-contribution_to n (Header x) = 0
-contribution_to n (Zone x) = 0
-contribution_to n (Border x) = 0
 contribution_to n (Leg x) = cond (x.line == n) x.contribution 0
-contribution_to n (Factor x) = 0
-contribution_to n (Loss x) = 0
-contribution_to n (Owner x) = 0
-contribution_to n End = 0
+contribution_to n _ = 0
 
 -- how much of leg n a record gives to an owner
 abbrev pub key_to : ℕ → Record → ℕ
-key_to n (Header x) = 0
-key_to n (Zone x) = 0
-key_to n (Border x) = 0
-key_to n (Leg x) = 0
-key_to n (Factor x) = 0
-key_to n (Loss x) = 0
 key_to n (Owner x) = cond (x.leg == n) x.key 0
-key_to n End = 0
+key_to n _ = 0
 
 -- what a part, if there is one, gives to number n
 abbrev pub given : Option (ℕ × ℕ) → ℕ → ℕ
