@@ -1,5 +1,5 @@
 -- The order of the records as the reader follows it, and as it is written. Assumes nothing.
-use Rattle.std.proofs.Common.{fold, ◌≡◌, ℕ, true, List, [], ◌∷◌, ◌++◌, length, drop, is_some, Some, unwrap_or, sym, refl, ap, ◌∙◌, subst, inl, inr, append-nil, arith}
+use Rattle.std.proofs.Common.{fold, ◌≡◌, ℕ, true, List, [], ◌∷◌, ◌++◌, drop, is_some, Some, unwrap_or, sym, refl, ap, ◌∙◌, subst, inl, inr, append-nil, arith}
 use Rattle.hourbook.specs.declared.hourfile.order.Phase.{Phase}
 use Rattle.hourbook.specs.declared.hourfile.order.Phase.TheVariants.{Start, Zones, Borders, Legs, Factors, Losses, Owners, Done}
 use Rattle.hourbook.specs.declared.hourfile.«record».Kind.{Kind}
@@ -71,7 +71,7 @@ left_leads Legs x ks t = from_legs Legs x ks refl refl refl refl refl t
 left_leads Factors x ks t = from_factors Factors x ks refl refl refl refl t
 left_leads Losses x ks t = from_losses Losses x ks refl refl refl t
 left_leads Owners x ks t = from_owners Owners x ks refl refl t
-left_leads Done x ks e = absurd (omega (arith, ap length e))
+left_leads Done x ks e = cc
 
 -- a kind that may stand takes the order on
 left_before : (p : Phase) (k : Kind) (ks : List Kind) → may_stand p k ≡ true → Left (phase_after p k) ks → Left p (k ∷ ks)
@@ -171,13 +171,13 @@ left_in_order p (r ∷ rs) ks t =
     ((n.0, m.0), m.1)
 
 left_end : (p : Phase) → Left p [] → p ≡ Done
-left_end Start h = absurd (omega (arith, ap length h.1))
-left_end Zones h = absurd (omega (arith, ap length h))
-left_end Borders h = absurd (omega (arith, ap length h))
-left_end Legs h = absurd (omega (arith, ap length h))
-left_end Factors h = absurd (omega (arith, ap length h))
-left_end Losses h = absurd (omega (arith, ap length h))
-left_end Owners h = absurd (omega (arith, ap length h))
+left_end Start h = cc (h.1)
+left_end Zones h = cc
+left_end Borders h = cc
+left_end Legs h = cc
+left_end Factors h = cc
+left_end Losses h = cc
+left_end Owners h = cc
 left_end Done h = refl
 
 pub opening_from : (rs : List Record) → InOrder Start rs → Opening rs
@@ -192,24 +192,14 @@ ordered_from rs o e = subst InSequence (append-nil (kinds_of rs)) (left_from Sta
 pub ordered_done : (rs : List Record) → Ordered rs → reached Start rs ≡ Done
 ordered_done rs h = left_end _ (left_in_order Start rs [] (subst InSequence (sym (append-nil (kinds_of rs))) h)).1
 
-abbrev head_bit : Kind → ℕ
-head_bit Header = 1
-head_bit Zone = 0
-head_bit Border = 0
-head_bit Leg = 0
-head_bit Factor = 0
-head_bit Loss = 0
-head_bit Owner = 0
-head_bit End = 0
-
 -- records in order begin with a header
 pub ordered_heads : (rs : List Record) (rest bytes : List ℕ) → Ordered rs → Reads bytes rs rest → (h : header.Header) × Begins bytes (row.Header h)
-ordered_heads [] rest bytes o r = absurd (omega (arith, ap length o.1))
+ordered_heads [] rest bytes o r = cc (o.1)
 ordered_heads (row.Header h ∷ rs) rest bytes o r = (h, subst (λ l. Begins l (row.Header h)) r (omega arith, refl))
-ordered_heads (row.Zone x ∷ rs) rest bytes o r = absurd (omega (arith, ap (λ l. head_bit (first l)) o.1))
-ordered_heads (row.Border x ∷ rs) rest bytes o r = absurd (omega (arith, ap (λ l. head_bit (first l)) o.1))
-ordered_heads (row.Leg x ∷ rs) rest bytes o r = absurd (omega (arith, ap (λ l. head_bit (first l)) o.1))
-ordered_heads (row.Factor x ∷ rs) rest bytes o r = absurd (omega (arith, ap (λ l. head_bit (first l)) o.1))
-ordered_heads (row.Loss x ∷ rs) rest bytes o r = absurd (omega (arith, ap (λ l. head_bit (first l)) o.1))
-ordered_heads (row.Owner x ∷ rs) rest bytes o r = absurd (omega (arith, ap (λ l. head_bit (first l)) o.1))
-ordered_heads (row.End ∷ rs) rest bytes o r = absurd (omega (arith, ap (λ l. head_bit (first l)) o.1))
+ordered_heads (row.Zone x ∷ rs) rest bytes o r = cc (o.1)
+ordered_heads (row.Border x ∷ rs) rest bytes o r = cc (o.1)
+ordered_heads (row.Leg x ∷ rs) rest bytes o r = cc (o.1)
+ordered_heads (row.Factor x ∷ rs) rest bytes o r = cc (o.1)
+ordered_heads (row.Loss x ∷ rs) rest bytes o r = cc (o.1)
+ordered_heads (row.Owner x ∷ rs) rest bytes o r = cc (o.1)
+ordered_heads (row.End ∷ rs) rest bytes o r = cc (o.1)
