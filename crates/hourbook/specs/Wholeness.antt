@@ -30,9 +30,9 @@ SumsOf f bytes sums = Passed (λ rs. (n : ℕ) → Numbered 64 n → slice_index
 abbrev pub AllAddUp : (ℕ → Record → ℕ) → (ℕ → Type 0) → List ℕ → ℕ → Type 0
 AllAddUp f P bytes count = Passed (λ rs. (n : ℕ) → Numbered count n → P (sum_by (f n) rs)) bytes
 
--- l is the first of so many numbers whose sum is not as P says
-abbrev pub FirstShort : (ℕ → Record → ℕ) → (ℕ → Type 0) → List ℕ → ℕ → ℕ → Type 0
-FirstShort f P bytes count l = Numbered count l
+-- the fault is that of the first of so many numbers whose sum is not as P says
+abbrev pub FirstShort : (ℕ → Record → ℕ) → (ℕ → Type 0) → (ℕ → FileFault) → List ℕ → ℕ → FileFault → Type 0
+FirstShort f P fault bytes count e = (l : ℕ) × (e ≡ fault l) × Numbered count l
     × Passed (λ rs. (P (sum_by (f l) rs) → ⊥) × ((n : ℕ) → 1 ≤ n → n < l → P (sum_by (f n) rs))) bytes
 
 -- rule 6 is kept by all of so many lines
@@ -41,7 +41,7 @@ AllContribute = AllAddUp contribution_to (λ s. 0 < s)
 
 -- the fault tells the first line without a leg that contributes
 abbrev pub NoneContributes : List ℕ → ℕ → FileFault → Type 0
-NoneContributes bytes lines e = (l : ℕ) × (e ≡ Contribution l) × FirstShort contribution_to (λ s. 0 < s) bytes lines l
+NoneContributes = FirstShort contribution_to (λ s. 0 < s) Contribution
 
 -- rule 7 is kept by all of so many legs
 abbrev pub AllOwned : List ℕ → ℕ → Type 0
@@ -49,4 +49,4 @@ AllOwned = AllAddUp key_to (λ s. s ≡ 10000)
 
 -- the fault tells the first leg whose keys add to something else
 abbrev pub NotOwned : List ℕ → ℕ → FileFault → Type 0
-NotOwned bytes legs e = (l : ℕ) × (e ≡ Keys l) × FirstShort key_to (λ s. s ≡ 10000) bytes legs l
+NotOwned = FirstShort key_to (λ s. s ≡ 10000) Keys
