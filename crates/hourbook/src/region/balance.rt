@@ -38,21 +38,19 @@ impl Network {
     fn capacity_out(&self, zone: usize) -> i64
         ensures { result ≡ net_capacity zone self.now.borders.items }
     {
-        let mut sum: i64 = 0;
-        for border in self.borders() {
-            sum += border.capacity_at(zone);
-        }
-        sum
+        self.borders()
+            .iter()
+            .map(|border| border.capacity_at(zone))
+            .sum()
     }
 
     fn position_sum(&self) -> i64
         ensures { result ≡ sum_z (tenths_of self.now.positions.items) }
     {
-        let mut sum: i64 = 0;
-        for position in self.positions() {
-            sum += i64::from(position.get());
-        }
-        sum
+        self.positions()
+            .iter()
+            .map(|position| i64::from(position.get()))
+            .sum()
     }
 
     fn position_size(&self) -> u64
