@@ -1,11 +1,11 @@
--- The entries of one owner. Assumes nothing.
-use Rattle.std.proofs.Common.{◌≡◌, ℕ, ◌+◌, ◌<◌, ◌≤◌, eqb, List, [], ◌∷◌, ◌++◌, length, get_or, drop, ℤ, pos, sym, ap, ◌∙◌, subst, arith}
+-- The entries of one owner, one after another. Assumes nothing.
+use Rattle.std.proofs.Common.{◌≡◌, ℕ, ◌+◌, ◌<◌, ◌≤◌, eqb, List, [], ◌∷◌, ◌++◌, length, get_or, drop, pos, ap, ◌∙◌, subst}
 use Rattle.std.specs.List.{flat_map}
-use Rattle.std.proofs.lemmas.List.{at_drop_more, at_drop_all, length-append, append_assoc, append-nil}
-use Rattle.hourbook.proofs.Texts.{Underway}
+use Rattle.std.proofs.lemmas.List.{at_drop_more, at_drop_all, append_assoc}
 use Rattle.std.proofs.lemmas.Bool.{eq-eqb, ne_eqb, cond-true, cond-false}
+use Rattle.hourbook.proofs.Sinking.{Underway}
 use Rattle.hourbook.specs.declared.entry.row.Row.{Row}
-use Rattle.hourbook.specs.Statements.{own, entry_line, owner_line, balance_line, text_of}
+use Rattle.hourbook.specs.Statements.{own, entry_line}
 use Rattle.hourbook.specs.declared.entry.kind.EntryKind.TheVariants.{Credit}
 
 -- what a read past the end gives
@@ -27,40 +27,18 @@ module _ {Y : Type 0} (F : List Row → Y) (owner : ℕ) (es : List Row) (i : �
   pub own_none : length es ≤ i → F (own owner (drop i es)) ≡ F []
   own_none h = at_drop_all (λ t. F (own owner t)) es i h
 
--- the length of what is left of the lines
-module _ (owner : ℕ) (es : List Row) (i : ℕ) where
-  abbrev lines_left : ℕ → ℕ
-  lines_left k = length (flat_map entry_line (own owner (drop k es)))
-
-  pub left_yes : (d : Row) → i < length es → (get_or es i d).owner ≡ owner → lines_left i ≡ length (entry_line (get_or es i d)) + lines_left (i + 1)
-  left_yes d h e =
-      own_yes (λ t. length (flat_map entry_line t)) owner es i d h e
-      ∙ length-append (entry_line (get_or es i d)) (flat_map entry_line (own owner (drop (i + 1) es)))
-
-  pub left_no : (d : Row) → i < length es → ((get_or es i d).owner ≡ owner → ⊥) → lines_left i ≡ lines_left (i + 1)
-  left_no d h ne = own_no (λ t. length (flat_map entry_line t)) owner es i d h ne
-
-  pub left_none : length es ≤ i → lines_left i ≡ 0
-  left_none h = own_none (λ t. length (flat_map entry_line t)) owner es i h
-
-pub text_length : (owner : ℕ) (balance : ℤ) (es : List Row) → length (text_of owner balance es) ≡ length (owner_line owner) + length (balance_line balance) + length (flat_map entry_line es)
-text_length owner balance es =
-    omega (arith, length-append (owner_line owner) (flat_map entry_line es ++ balance_line balance), length-append (flat_map entry_line es) (balance_line balance))
-
--- the lines still to write, one entry on
-module _ (old cur : List ℕ) (at w : ℕ) (text tail : List ℕ) (owner : ℕ) (es : List Row) (i : ℕ) (s : Underway old cur at w text (flat_map entry_line (own owner (drop i es)) ++ tail)) where
-  pub lines_yes : (d : Row) → i < length es → (get_or es i d).owner ≡ owner → Underway old cur at w text (entry_line (get_or es i d) ++ (flat_map entry_line (own owner (drop (i + 1) es)) ++ tail))
-  lines_yes d h e =
-      subst (λ t. Underway old cur at w text t)
-      (own_yes (λ t. flat_map entry_line t ++ tail) owner es i d h e ∙ append_assoc (entry_line (get_or es i d)) (flat_map entry_line (own owner (drop (i + 1) es))) tail)
+-- the lines still to come, one entry on
+module _ {S : Type 0} {has_room : S → ℕ → Type 0} {took : S → List ℕ → S → Type 0} {a b : S} {text : List ℕ} (tail : List ℕ) (owner : ℕ) (es : List Row) (i : ℕ) (s : Underway has_room took a b text (flat_map entry_line (own owner (drop i es)) ++ tail)) where
+  pub lines_yes : i < length es → (get_or es i blank).owner ≡ owner → Underway has_room took a b text (entry_line (get_or es i blank) ++ (flat_map entry_line (own owner (drop (i + 1) es)) ++ tail))
+  lines_yes h e =
+      subst (Underway has_room took a b text)
+      (own_yes (λ t. flat_map entry_line t ++ tail) owner es i blank h e ∙ append_assoc (entry_line (get_or es i blank)) (flat_map entry_line (own owner (drop (i + 1) es))) tail)
       s
 
-  pub lines_no : (d : Row) → i < length es → ((get_or es i d).owner ≡ owner → ⊥) → Underway old cur at w text (flat_map entry_line (own owner (drop (i + 1) es)) ++ tail)
-  lines_no d h ne =
-      subst (λ t. Underway old cur at w text t) (own_no (λ t. flat_map entry_line t ++ tail) owner es i d h ne) s
+  pub lines_no : i < length es → ((get_or es i blank).owner ≡ owner → ⊥) → Underway has_room took a b text (flat_map entry_line (own owner (drop (i + 1) es)) ++ tail)
+  lines_no h ne =
+      subst (Underway has_room took a b text) (own_no (λ t. flat_map entry_line t ++ tail) owner es i blank h ne) s
 
-  pub lines_none : length es ≤ i → Underway old cur at w text (tail ++ [])
+  pub lines_none : length es ≤ i → Underway has_room took a b text tail
   lines_none h =
-      subst (λ t. Underway old cur at w text t)
-      (own_none (λ t. flat_map entry_line t ++ tail) owner es i h ∙ sym (append-nil tail))
-      s
+      subst (Underway has_room took a b text) (own_none (λ t. flat_map entry_line t ++ tail) owner es i h) s

@@ -1,6 +1,7 @@
 -- What stands in work memory. Assumes nothing.
 use Rattle.std.proofs.Common.{◌≡◌, ℕ, ◌+◌, ◌-◌, ◌*◌, ◌≤◌, List, [], ◌∷◌, ◌++◌, map, length, take, drop, ℤ, pos, negsuc, nat_abs, ◌≤ℤ◌, vec_items, sym, refl, ap, ◌∙◌, arith}
-use Rattle.std.proofs.lemmas.Int.{ints}
+use Rattle.std.specs.Int.{int_max}
+use Rattle.std.proofs.lemmas.Int.{int_max_is, ints}
 use Rattle.sharing.proofs.Writing.{written-append}
 use Rattle.hourbook.specs.declared.hourfile.owner.Owner.{Owner}
 use Rattle.hourbook.specs.declared.hourfile.owned_line.OwnedLine.{OwnedLine}
@@ -12,10 +13,6 @@ use Rattle.hourbook.specs.Settled.{paid, credit, needed}
 use Rattle.std.proofs.lemmas.List.{append_assoc, take_at, drop_at, map-append, length-map}
 use Rattle.sharing.specs.Shares.{total}
 use Rattle.sharing.specs.Writes.{written}
-
--- the front of memory that was written over
-pub front : {X : Type 0} (m xs : List X) (n : ℕ) → length xs ≡ n → take n (written m 0 xs) ≡ xs
-front m xs n e = take_at xs _ n e
 
 pub abs_all : (ss : List ℕ) → map nat_abs (map pos ss) ≡ ss
 abs_all [] = refl
@@ -54,6 +51,10 @@ loss origin (negsuc k) n ss lines owners h e = ap (λ t. equal_deal origin t own
 pub credit_small : (z : ℤ) → credit z ≤ nat_abs z
 credit_small (pos k) = omega arith
 credit_small (negsuc k) = omega arith
+
+pub credit_max : (z m : ℤ) → m ≡ int_max z (pos 0) → nat_abs m ≡ credit z
+credit_max (pos k) m e = ap nat_abs e ∙ omega (arith, ints, int_max_is (pos k) (pos 0))
+credit_max (negsuc k) m e = ap nat_abs e
 
 -- how many entries an income of either sign takes
 pub needed_loss : (z : ℤ) (table : Ownership) → z ≤ℤ negsuc 0 → needed z table ≡ length (vec_items table.owners)

@@ -55,3 +55,6 @@ module _ (bytes : List ℕ) where
 
 pub passed_weaker : (P Q : List Record → Type 0) (bytes : List ℕ) → ((rs : List Record) → P rs → Q rs) → Passed P bytes → Passed Q bytes
 passed_weaker P Q bytes f h = record { records = h.records; rest = h.rest; reads = h.reads; ends = h.ends; keeps = f h.records h.keeps }
+
+pub first_out_same : (P Q : List Record → Type 0) (bytes : List ℕ) (p : ℕ) → ((rs : List Record) → P rs → Q rs) → ((rs : List Record) → Q rs → P rs) → FirstOut P bytes p → FirstOut Q bytes p
+first_out_same P Q bytes p f g h = record { before = h.before; here = h.here; after = h.after; reads = h.reads; held = f h.before h.held; out = λ q. h.out (g (h.before ++ (h.here ∷ [])) q); place = h.place }

@@ -1,6 +1,5 @@
 -- The order of the records as the reader follows it, and as it is written. Assumes nothing.
-use Rattle.std.proofs.Common.{◌≡◌, ℕ, true, false, List, [], ◌∷◌, ◌++◌, length, drop, is_some, Some, unwrap_or, sym, refl, ap, ◌∙◌, subst, inl, inr, true≢false, append_assoc, append-nil, arith}
-use Rattle.std.proofs.lemmas.List.{map_push}
+use Rattle.std.proofs.Common.{fold, ◌≡◌, ℕ, true, List, [], ◌∷◌, ◌++◌, length, drop, is_some, Some, unwrap_or, sym, refl, ap, ◌∙◌, subst, inl, inr, true≢false, append-nil, arith}
 use Rattle.hourbook.specs.declared.hourfile.order.Phase.{Phase}
 use Rattle.hourbook.specs.declared.hourfile.order.Phase.TheVariants.{Start, Zones, Borders, Legs, Factors, Losses, Owners, Done}
 use Rattle.hourbook.specs.declared.hourfile.«record».Kind.{Kind}
@@ -10,7 +9,7 @@ use Rattle.hourbook.specs.declared.hourfile.«record».Header as header
 use Rattle.hourbook.specs.declared.hourfile.«record».Record.{Record}
 use Rattle.hourbook.specs.declared.hourfile.«record».Record.TheVariants as row
 use Rattle.hourbook.specs.Encoding.{Begins}
-use Rattle.hourbook.specs.Passes.{Reads}
+use Rattle.hourbook.specs.Passes.{AllInTurn, Reads}
 use Rattle.hourbook.specs.Kinds.{kind_of}
 use Rattle.hourbook.specs.Sequence.{Last, FromOwners, FromLosses, FromFactors, FromLegs, FromBorders, FromZones, InSequence, Opening, Ordered, kinds_of}
 
@@ -145,35 +144,31 @@ rest_of Losses = (End ∷ [], inl (inl refl))
 rest_of Owners = (End ∷ [], inl refl)
 rest_of Done = ([], refl)
 
--- after the records the reader is at p: what may follow is what is left at p
-abbrev pub Follows : List Record → Phase → Type 0
-Follows rs p = (ks : List Kind) → (Left p ks → InSequence (kinds_of rs ++ ks)) × (InSequence (kinds_of rs ++ ks) → Left p ks)
+-- the records stand in order, from phase p on
+abbrev pub InOrder : Phase → List Record → Type 0
+InOrder = AllInTurn (λ p r. may_stand p (kind_of r) ≡ true) (λ p r. phase_after p (kind_of r))
 
-pub follows_start : (p : Phase) → p ≡ Start → Follows [] p
-follows_start p e ks = (λ h. subst (λ q. Left q ks) e h, λ h. subst (λ q. Left q ks) (sym e) h)
+abbrev pub reached : Phase → List Record → Phase
+reached p rs = fold (λ q r. phase_after q (kind_of r)) p rs
 
-pub follows_held : (rs : List Record) (p : Phase) → Follows rs p → Opening rs
-follows_held rs p so = let r = rest_of p in (r.0, (so r.0).0 r.1)
+pub left_from : (p : Phase) (rs : List Record) (ks : List Kind) → InOrder p rs → Left (reached p rs) ks → Left p (kinds_of rs ++ ks)
+left_from p [] ks o t = t
+left_from p (r ∷ rs) ks o t = left_before p (kind_of r) (kinds_of rs ++ ks) o.0 (left_from (phase_after p (kind_of r)) rs ks o.1 t)
 
-module _ (rs : List Record) (x : Record) where
-  more_kinds : (ks : List Kind) → kinds_of (rs ++ (x ∷ [])) ++ ks ≡ kinds_of rs ++ (kind_of x ∷ ks)
-  more_kinds ks = ap (λ l. l ++ ks) (map_push kind_of rs x) ∙ append_assoc (kinds_of rs) (kind_of x ∷ []) ks
+-- what is left of the order after one kind
+left_next : (p : Phase) (k : Kind) (ks : List Kind) → Left p (k ∷ ks) → (may_stand p k ≡ true) × Left (phase_after p k) ks
+left_next p k ks t =
+    let l = left_leads p k ks t in
+    let after : phase_after p k ≡ l.0 = ap (λ o. unwrap_or o p) l.1 in
+    (ap is_some l.1, subst (λ q. Left q ks) (sym after) l.2)
 
-  module _ (p : Phase) (so : Follows rs p) where
-    pub follows_next : (q : Phase) → may_stand p (kind_of x) ≡ true → q ≡ phase_after p (kind_of x) → Follows (rs ++ (x ∷ [])) q
-    follows_next q may e ks =
-        let on = more_kinds ks in (
-          λ h. subst InSequence (sym on) ((so (kind_of x ∷ ks)).0 (left_before p (kind_of x) ks may (subst (λ r. Left r ks) e h))),
-          λ h.
-              let l = left_leads p (kind_of x) ks ((so (kind_of x ∷ ks)).1 (subst InSequence on h)) in
-              let after : phase_after p (kind_of x) ≡ l.0 = ap (λ o. unwrap_or o p) l.1 in
-              subst (λ r. Left r ks) (sym (e ∙ after)) l.2,
-        )
-
-    pub follows_out : may_stand p (kind_of x) ≡ false → Opening (rs ++ (x ∷ [])) → ⊥
-    follows_out not h =
-        let l = left_leads p (kind_of x) h.0 ((so (kind_of x ∷ h.0)).1 (subst InSequence (more_kinds h.0) h.1)) in
-        true≢false (sym (ap is_some l.1) ∙ not)
+-- what the order lets begin with the records is in order
+pub left_in_order : (p : Phase) (rs : List Record) (ks : List Kind) → Left p (kinds_of rs ++ ks) → InOrder p rs × Left (reached p rs) ks
+left_in_order p [] ks t = (tt, t)
+left_in_order p (r ∷ rs) ks t =
+    let n = left_next p (kind_of r) (kinds_of rs ++ ks) t in
+    let m = left_in_order (phase_after p (kind_of r)) rs ks n.1 in
+    ((n.0, m.0), m.1)
 
 left_end : (p : Phase) → Left p [] → p ≡ Done
 left_end Start h = absurd (omega (arith, ap length h.1))
@@ -185,12 +180,17 @@ left_end Losses h = absurd (omega (arith, ap length h))
 left_end Owners h = absurd (omega (arith, ap length h))
 left_end Done h = refl
 
-module _ (rs : List Record) (p : Phase) (so : Follows rs p) where
-  pub follows_done : p ≡ Done → Ordered rs
-  follows_done e = subst InSequence (append-nil (kinds_of rs)) ((so []).0 (subst (λ r. Left r []) (sym e) refl))
+pub opening_from : (rs : List Record) → InOrder Start rs → Opening rs
+opening_from rs o = let r = rest_of (reached Start rs) in (r.0, left_from Start rs r.0 o r.1)
 
-  pub follows_short : (p ≡ Done → ⊥) → Ordered rs → ⊥
-  follows_short not h = not (left_end p ((so []).1 (subst InSequence (sym (append-nil (kinds_of rs))) h)))
+pub opening_in_order : (rs : List Record) → Opening rs → InOrder Start rs
+opening_in_order rs h = (left_in_order Start rs h.0 h.1).0
+
+pub ordered_from : (rs : List Record) → InOrder Start rs → reached Start rs ≡ Done → Ordered rs
+ordered_from rs o e = subst InSequence (append-nil (kinds_of rs)) (left_from Start rs [] o (subst (λ p. Left p []) (sym e) refl))
+
+pub ordered_done : (rs : List Record) → Ordered rs → reached Start rs ≡ Done
+ordered_done rs h = left_end _ (left_in_order Start rs [] (subst InSequence (sym (append-nil (kinds_of rs))) h)).1
 
 abbrev head_bit : Kind → ℕ
 head_bit Header = 1

@@ -1,22 +1,46 @@
--- Standing, one entry at a time from the end. Assumes nothing.
-use Rattle.std.proofs.Common.{◌≡◌, ℕ, ◌+◌, ◌-◌, ◌<◌, ◌≤◌, false, eqb, List, length, get_or, take, ap, ◌∙◌, arith}
-use Rattle.std.proofs.lemmas.List.Sums.{fold_more}
-use Rattle.std.proofs.lemmas.Bool.{eq-eqb, ne_eqb, cond-true, cond-false}
+-- Standing, told by the last entry that decides. Assumes nothing.
+use Rattle.std.proofs.Common.{◌≡◌, ℕ, Bool, true, false, cond, ◌&&◌, eqb, List, [], ◌∷◌, reverse, fold, Option, Some, None, refl, sym, ap, ◌∙◌}
+use Rattle.std.specs.List.{find}
+use Rattle.std.specs.Option.{MatchOption, option_map, option_or}
+use Rattle.std.proofs.lemmas.List.{reverse-append}
+use Rattle.std.proofs.lemmas.List.Folds.{find-append}
 use Rattle.hourbook.specs.declared.entry.kind.EntryKind.{EntryKind}
+use Rattle.hourbook.specs.declared.entry.kind.EntryKind.TheVariants.{Credit, TakenBack, Payment}
 use Rattle.hourbook.specs.declared.entry.row.Row.{Row}
-use Rattle.hourbook.specs.Standing.{after, turn, standing}
+use Rattle.hourbook.specs.Standing.{after, decides, turn, standing}
 
-module _ (hour : ℕ) (es : List Row) (i : ℕ) (d : Row) (some' : 0 < i) (within : i ≤ length es) where
-  -- the last of the first i entries decides by its turn
-  pub standing_last : standing hour (take i es) ≡ turn hour (standing hour (take (i - 1) es)) (get_or es (i - 1) d)
-  standing_last =
-      let e : i ≡ (i - 1) + 1 = omega arith in
-      ap (λ n. standing hour (take n es)) e ∙ fold_more (turn hour) false es (i - 1) d (omega arith)
+-- an entry of the hour that decides
+abbrev pub deciding : ℕ → Row → Bool
+deciding hour e = eqb e.hour hour && decides e.kind
 
-  pub standing_other : ((get_or es (i - 1) d).hour ≡ hour → ⊥) → standing hour (take i es) ≡ standing hour (take (i - 1) es)
-  standing_other ne =
-      standing_last ∙ cond-false (eqb (get_or es (i - 1) d).hour hour) _ _ (ne_eqb _ _ ne)
+-- what that entry tells, and s where there is none
+abbrev pub told : Option Row → Bool → Bool
+told None s = s
+told (Some e) s = after e.kind false
 
-  pub standing_here : (k : EntryKind) → (get_or es (i - 1) d).hour ≡ hour → (get_or es (i - 1) d).kind ≡ k → standing hour (take i es) ≡ after k (standing hour (take (i - 1) es))
-  standing_here k e f =
-      standing_last ∙ (cond-true (eqb (get_or es (i - 1) d).hour hour) _ _ (eq-eqb _ _ e) ∙ ap (λ x. after x (standing hour (take (i - 1) es))) f)
+module _ (hour : ℕ) where
+  by_kind : (b : Bool) (e : Row) (k : EntryKind) (s : Bool) → e.kind ≡ k → cond b (after k s) s ≡ told (cond (b && decides k) (Some e) None) s
+  by_kind false e k s h = refl
+  by_kind true e Credit s h = sym (ap (λ x. after x false) h)
+  by_kind true e TakenBack s h = sym (ap (λ x. after x false) h)
+  by_kind true e Payment s h = refl
+
+  one_before : (o : Option Row) (e : Row) (s : Bool) → told o (turn hour s e) ≡ told (option_or o (find (deciding hour) (e ∷ []))) s
+  one_before None e s = by_kind (eqb e.hour hour) e e.kind s refl
+  one_before (Some x) e s = refl
+
+  told_from : (es : List Row) (s : Bool) → fold (turn hour) s es ≡ told (find (deciding hour) (reverse es)) s
+  told_from [] s = refl
+  told_from (e ∷ es) s =
+      told_from es (turn hour s e)
+      ∙ (one_before (find (deciding hour) (reverse es)) e s
+      ∙ (ap (λ o. told o s) (sym (find-append (deciding hour) (reverse es) (e ∷ [])))
+      ∙ ap (λ xs. told (find (deciding hour) xs) s) (sym (reverse-append (e ∷ []) es))))
+
+  pub standing_by_last : (es : List Row) → standing hour es ≡ told (find (deciding hour) (reverse es)) false
+  standing_by_last es = told_from es false
+
+-- what a test of that entry answers
+pub told_by_test : {A : Type 0} (now : A → Row) (P : A → Type 0) (o : Option A) (r : Bool) → MatchOption o (r ≡ false) P → ((x : A) → P x → r ≡ after (now x).kind false) → r ≡ told (option_map now o) false
+told_by_test now P None r m f = m
+told_by_test now P (Some x) r m f = f x m

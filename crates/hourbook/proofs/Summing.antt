@@ -1,14 +1,14 @@
 -- Sums by number, one record more. Assumes nothing.
-use Rattle.std.proofs.Common.{◌≡◌, ℕ, ◌+◌, ◌-◌, ◌<◌, ◌≤◌, min, cond, eqb, ◌⊎◌, List, [], ◌∷◌, ◌++◌, length, get_or, replicate, Some, None, sum_by, Option, sym, refl, ap, ◌∙◌, subst, inl, inr, ⊎_elim, arith, length-set, get_or-set_other, get_or-set_same}
+use Rattle.std.proofs.Common.{◌≡◌, ℕ, ◌+◌, ◌-◌, ◌<◌, ◌≤◌, min, cond, eqb, ◌⊎◌, List, [], ◌∷◌, ◌++◌, length, get_or, replicate, sum_by, sym, refl, ap, ◌∙◌, subst, inl, inr, ⊎_elim, arith, length-set, get_or-set_other, get_or-set_same}
 use lib.ListN.{get_or-replicate}
 use Rattle.std.proofs.lemmas.Bool.{cases_eq, cases_lt, cond-true, cond-false, eq-eqb, ne_eqb}
 use Rattle.std.proofs.lemmas.List.Sums.{sum_by_push}
 use Rattle.hourbook.specs.declared.hourfile.«record».Record.{Record}
-use Rattle.hourbook.specs.declared.hourfile.«record».Record.TheVariants.{Header, Zone, Border, Leg, Factor, Loss, Owner, End}
-use Rattle.hourbook.specs.declared.hourfile.«record».LegRecord.{LegRecord}
-use Rattle.hourbook.specs.declared.hourfile.«record».OwnerRecord.{OwnerRecord}
-use Rattle.hourbook.specs.Kinds.{leg_in, owner_in}
-use Rattle.hourbook.specs.Wholeness.{contribution_to, key_to}
+use Rattle.hourbook.specs.Encoding.{encoded}
+use Rattle.hourbook.specs.Format.{Whole}
+use Rattle.hourbook.specs.Passes.{Reads}
+use Rattle.hourbook.proofs.Passing.{reads_next}
+use Rattle.hourbook.specs.Wholeness.{SumsOf}
 use Rattle.hourbook.specs.Numbering.{Numbered}
 use Rattle.hourbook.specs.Sums.{plus}
 
@@ -63,39 +63,29 @@ module _ (f : ℕ → Record → ℕ) (rs : List Record) (x : Record) (sums afte
       (λ out. subst (Summed f (rs ++ (x ∷ []))) (sym (same out)) (summed_same f rs x sums so (λ n h. none_else n (λ e. out (subst (Numbered 64) e h)))))
       (numbered_or_not i)
 
-abbrev leg_adds : ℕ → Option LegRecord → ℕ
-leg_adds n (Some l) = cond (eqb l.line n) l.contribution 0
-leg_adds n None = 0
+-- the records so far have these sums, and rest is left
+pub record SumsSoFar (f : ℕ → Record → ℕ) (bytes rest sums : List ℕ) : Type 0 where
+  pub records : List Record
+  pub reads : Reads bytes records rest
+  pub summed : Summed f records sums
 
-pub by_leg : (n : ℕ) (x : Record) (o : Option LegRecord) → o ≡ leg_in x → contribution_to n x ≡ leg_adds n o
-by_leg n x o e = told x ∙ ap (leg_adds n) (sym e)
-  where
-    told : (y : Record) → contribution_to n y ≡ leg_adds n (leg_in y)
-    told (Header y) = refl
-    told (Zone y) = refl
-    told (Border y) = refl
-    told (Leg y) = refl
-    told (Factor y) = refl
-    told (Loss y) = refl
-    told (Owner y) = refl
-    told End = refl
+module _ (f : ℕ → Record → ℕ) (bytes rest sums : List ℕ) where
+  pub sums_start : rest ≡ bytes → sums ≡ replicate 64 0 → SumsSoFar f bytes rest sums
+  sums_start e zero = record { records = []; reads = e; summed = subst (Summed f []) (sym zero) (summed_none f) }
 
-abbrev owner_adds : ℕ → Option OwnerRecord → ℕ
-owner_adds n (Some o) = cond (eqb o.leg n) o.key 0
-owner_adds n None = 0
+  module _ (so : SumsSoFar f bytes rest sums) where
+    pub sums_end : (Whole rest → ⊥) → SumsOf f bytes sums
+    sums_end none = record { records = so.records; rest = rest; reads = so.reads; ends = none; keeps = so.summed.each }
 
-pub by_owner : (n : ℕ) (x : Record) (o : Option OwnerRecord) → o ≡ owner_in x → key_to n x ≡ owner_adds n o
-by_owner n x o e = told x ∙ ap (owner_adds n) (sym e)
-  where
-    told : (y : Record) → key_to n y ≡ owner_adds n (owner_in y)
-    told (Header y) = refl
-    told (Zone y) = refl
-    told (Border y) = refl
-    told (Leg y) = refl
-    told (Factor y) = refl
-    told (Loss y) = refl
-    told (Owner y) = refl
-    told End = refl
+    module _ (left : List ℕ) (x : Record) (split : rest ≡ encoded x ++ left) where
+      sums_more : (after : List ℕ) → Summed f (so.records ++ (x ∷ [])) after → SumsSoFar f bytes left after
+      sums_more after summed = record { records = so.records ++ (x ∷ []); reads = reads_next bytes so.records rest left x so.reads split; summed = summed }
+
+      pub sums_same : ((n : ℕ) → f n x ≡ 0) → SumsSoFar f bytes left sums
+      sums_same none = sums_more sums (summed_same f so.records x sums so.summed (λ n h. none n))
+
+      pub sums_next : (after : List ℕ) (i v : ℕ) → ((n : ℕ) → f n x ≡ cond (eqb i n) v 0) → (Numbered 64 i → after ≡ plus sums i v) → ((Numbered 64 i → ⊥) → after ≡ sums) → SumsSoFar f bytes left after
+      sums_next after i v gives adds same = sums_more after (summed_next f so.records x sums after so.summed i v gives adds same)
 
 pub some_sum : (s a : ℕ) → a ≡ min s 65535 → (a ≡ 0 → ⊥) → 0 < s
 some_sum s a e ne = ⊎_elim (λ more. more) (λ none. absurd (ne (omega (arith, e, none)))) (cases_lt 0 s)

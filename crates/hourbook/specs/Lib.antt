@@ -28,8 +28,11 @@ pub mod Order
 pub mod Sums
 pub mod Tallies
 pub mod Amounts
+pub mod Entries
 pub mod Text
 pub mod Wrote
+pub mod Sinks
+pub mod SinkModels
 pub mod Statements
 pub mod StatementAnswers
 pub mod BookFaults

@@ -11,6 +11,11 @@ use Rattle.hourbook.specs.Format.{Whole}
 abbrev pub Reads : List ℕ → List Record → List ℕ → Type 0
 Reads bytes rs rest = flat_map encoded rs ++ rest ≡ bytes
 
+-- each record passes in the state that those before it lead to, from s on
+abbrev pub AllInTurn : {S : Type 0} → (S → Record → Type 0) → (S → Record → S) → S → List Record → Type 0
+AllInTurn passes after s [] = Unit {0}
+AllInTurn passes after s (r ∷ rs) = passes s r × AllInTurn passes after (after s r) rs
+
 -- the records that stand at the front of the bytes keep P, and no further record follows them
 pub record Passed (P : List Record → Type 0) (bytes : List ℕ) : Type 0 where
   pub records : List Record

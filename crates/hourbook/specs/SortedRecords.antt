@@ -1,13 +1,12 @@
 -- The records of an hour file, sorted by kind.
 use Rattle.std.specs.Prelude.{ℕ, ◌+◌, ◌-◌, List, [], ◌∷◌, ◌++◌, map, length, replicate, ℤ, vec_items, slice_set}
-use Rattle.hourbook.specs.declared.hourfile.border.Border as border
 use Rattle.hourbook.specs.declared.hourfile.gathered.Gathered.{Gathered}
 use Rattle.hourbook.specs.declared.hourfile.gathered.NumberedLeg.{NumberedLeg}
 use Rattle.hourbook.specs.declared.hourfile.«record».BorderRecord.{BorderRecord}
 use Rattle.hourbook.specs.declared.hourfile.«record».OwnerRecord.{OwnerRecord}
 use Rattle.hourbook.specs.declared.hourfile.«record».Record.{Record}
 use Rattle.hourbook.specs.declared.hourfile.«record».Record.TheVariants.{Header, Zone, Border, Leg, Factor, Loss, Owner, End}
-use Rattle.hourbook.specs.Tables.{cents_of, tenths_of}
+use Rattle.hourbook.specs.Tables.{border_said, cents_of, tenths_of}
 
 -- zones by their prices and net positions, borders, legs with their numbers, losses by line, owner rows
 pub record Sorted : Type 0 where
@@ -17,9 +16,6 @@ pub record Sorted : Type 0 where
   pub legs : List NumberedLeg
   pub losses : List ℕ
   pub owners : List OwnerRecord
-
-abbrev pub border_said : border.Border → BorderRecord
-border_said b = record { near = b.near; far = b.far; capacity = b.capacity.value }
 
 abbrev pub said : Gathered → Sorted
 said g = record {

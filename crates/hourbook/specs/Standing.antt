@@ -10,6 +10,12 @@ after Credit s = true
 after TakenBack s = false
 after Payment s = s
 
+-- a credit and a credit taken back decide, and a payment does not
+abbrev pub decides : EntryKind → Bool
+decides Credit = true
+decides TakenBack = true
+decides Payment = false
+
 -- an entry of the hour decides by its kind, and another leaves it
 abbrev pub turn : ℕ → Bool → Row → Bool
 turn hour s e = cond (e.hour == hour) (after e.kind s) s

@@ -1,11 +1,7 @@
 -- What a statement is answered with.
-use Rattle.std.specs.Prelude.{ℕ, cond, List, ◌++◌, length, take, drop, Some, None, Option, nat_lt}
+use Rattle.std.specs.Prelude.{ℕ, List, ◌++◌, length, take, drop}
 use Rattle.hourbook.specs.declared.entry.row.Row.{Row}
 use Rattle.hourbook.specs.Statements.{own, statement_of}
-
--- a length, where it finds its room
-abbrev pub fitting : ℕ → ℕ → Option ℕ
-fitting room n = cond (nat_lt room n) None (Some n)
 
 -- the text of an owner's statement over the entries that count
 abbrev pub text : ℕ → ℕ → List Row → List ℕ

@@ -6,8 +6,8 @@ use Rattle.hourbook.specs.Collecting.{Collected}
 use Rattle.hourbook.specs.Heading.{Heads}
 use Rattle.hourbook.specs.Naming.{census_lines}
 use Rattle.hourbook.specs.OwnershipRead.{line_said, lines_told}
-use Rattle.hourbook.specs.SortedRecords.{Sorted, border_said}
-use Rattle.hourbook.specs.Tables.{cents_of, tenths_of}
+use Rattle.hourbook.specs.SortedRecords.{Sorted}
+use Rattle.hourbook.specs.Tables.{border_said, cents_of, tenths_of}
 
 -- the file says what its records say
 pub record Tabled (c : Census) (s : Sorted) (f : HourFile) : Type 0 where

@@ -1,5 +1,5 @@
 -- Rules 6 and 7: every line has a leg that contributes, and every leg is owned whole.
-use Rattle.std.specs.Prelude.{◌≡◌, ℕ, ◌-◌, ◌<◌, ◌≤◌, min, cond, List, sum_by, ◌==◌, ◌≢◌, slice_index}
+use Rattle.std.specs.Prelude.{Some, None, Option, ◌≡◌, ℕ, ◌-◌, ◌<◌, ◌≤◌, min, cond, List, sum_by, ◌==◌, slice_index}
 use Rattle.hourbook.specs.declared.hourfile.fault.FileFault.{FileFault}
 use Rattle.hourbook.specs.declared.hourfile.fault.FileFault.TheVariants.{Contribution, Keys}
 use Rattle.hourbook.specs.declared.hourfile.«record».Record.{Record}
@@ -29,24 +29,36 @@ key_to n (Loss x) = 0
 key_to n (Owner x) = cond (x.leg == n) x.key 0
 key_to n End = 0
 
+-- what a part, if there is one, gives to number n
+abbrev pub given : Option (ℕ × ℕ) → ℕ → ℕ
+given (Some part) n = cond (part.0 == n) part.1 0
+given None n = 0
+
 -- the sums by number of what the records give, none above the largest of two bytes
 abbrev pub SumsOf : (ℕ → Record → ℕ) → List ℕ → List ℕ → Type 0
 SumsOf f bytes sums = Passed (λ rs. (n : ℕ) → Numbered 64 n → slice_index sums (n - 1) ≡ min (sum_by (f n) rs) 65535) bytes
 
+-- of each of so many numbers, the records' sum is as P says
+abbrev pub AllAddUp : (ℕ → Record → ℕ) → (ℕ → Type 0) → List ℕ → ℕ → Type 0
+AllAddUp f P bytes count = Passed (λ rs. (n : ℕ) → Numbered count n → P (sum_by (f n) rs)) bytes
+
+-- l is the first of so many numbers whose sum is not as P says
+abbrev pub FirstShort : (ℕ → Record → ℕ) → (ℕ → Type 0) → List ℕ → ℕ → ℕ → Type 0
+FirstShort f P bytes count l = Numbered count l
+    × Passed (λ rs. (P (sum_by (f l) rs) → ⊥) × ((n : ℕ) → 1 ≤ n → n < l → P (sum_by (f n) rs))) bytes
+
 -- rule 6 is kept by all of so many lines
 abbrev pub AllContribute : List ℕ → ℕ → Type 0
-AllContribute bytes lines = Passed (λ rs. (n : ℕ) → Numbered lines n → 0 < sum_by (contribution_to n) rs) bytes
+AllContribute = AllAddUp contribution_to (λ s. 0 < s)
 
 -- the fault tells the first line without a leg that contributes
 abbrev pub NoneContributes : List ℕ → ℕ → FileFault → Type 0
-NoneContributes bytes lines e = (l : ℕ) × (e ≡ Contribution l) × Numbered lines l
-    × Passed (λ rs. (sum_by (contribution_to l) rs ≡ 0) × ((n : ℕ) → 1 ≤ n → n < l → 0 < sum_by (contribution_to n) rs)) bytes
+NoneContributes bytes lines e = (l : ℕ) × (e ≡ Contribution l) × FirstShort contribution_to (λ s. 0 < s) bytes lines l
 
 -- rule 7 is kept by all of so many legs
 abbrev pub AllOwned : List ℕ → ℕ → Type 0
-AllOwned bytes legs = Passed (λ rs. (n : ℕ) → Numbered legs n → sum_by (key_to n) rs ≡ 10000) bytes
+AllOwned = AllAddUp key_to (λ s. s ≡ 10000)
 
 -- the fault tells the first leg whose keys add to something else
 abbrev pub NotOwned : List ℕ → ℕ → FileFault → Type 0
-NotOwned bytes legs e = (l : ℕ) × (e ≡ Keys l) × Numbered legs l
-    × Passed (λ rs. (sum_by (key_to l) rs ≢ 10000) × ((n : ℕ) → 1 ≤ n → n < l → sum_by (key_to n) rs ≡ 10000)) bytes
+NotOwned bytes legs e = (l : ℕ) × (e ≡ Keys l) × FirstShort key_to (λ s. s ≡ 10000) bytes legs l

@@ -1,8 +1,8 @@
 //! The office's notice of a refusal.
 use std::fmt;
 
-// The number of the refusal, the layer that refuses, from the file as 1 to the book as 4, and where the file is at
-// fault: a record counted from 1, a line or a leg, or 0 where there is none.
+// In the office's numbers: the refusal, the layer that refuses, from the file as 1 to the book as 4, and where the file
+// is at fault: a record counted from 1, a line or a leg, or 0 where there is none.
 #[derive(Clone, Copy, Debug, PartialEq, Eq, Hash)]
 pub(crate) struct Notice {
     pub(crate) number: u8,

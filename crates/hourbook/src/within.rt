@@ -1,5 +1,5 @@
 //! A number within a limit either way.
-ghost use Rattle.std.specs.Prelude.{◌≡◌, ◌≤◌, MatchResult, unsigned_abs};
+ghost use Rattle.std.specs.Prelude.{◌≡◌, ◌≤◌, MatchResult, pos, unsigned_abs};
 
 #[derive(Clone, Copy)]
 pub(crate) struct Within<const LIMIT: u32> {
@@ -30,5 +30,13 @@ impl<const LIMIT: u32> Within<LIMIT> {
         ensures bound { unsigned_abs result ≤ LIMIT }
     {
         self.value
+    }
+}
+
+impl<const LIMIT: u32> Default for Within<LIMIT> {
+    ghost is_default = { λ w. w.value ≡ pos 0 };
+
+    fn default() -> Within<LIMIT> {
+        Within { value: 0 }
     }
 }

@@ -2,12 +2,15 @@
 ghost use Rattle.std.specs.Prelude.{◌≤◌};
 
 use crate::book::fault::BookFault;
+use crate::book::settled::SettledRegions;
 
+mod entries;
 pub(crate) mod fault;
 pub(crate) mod open;
 pub(crate) mod post;
 pub(crate) mod settle;
 mod settled;
+mod sink;
 mod standing;
 pub(crate) mod state;
 mod statement;
@@ -20,14 +23,13 @@ pub(crate) struct RestingBook {
     ghost few: { used ≤ 1000000 },
 }
 
-// The entries past those of the resting book are pending. Bit r − 1 of `settled` is set for a region r that is settled
-// in this opening.
+// The entries past those of the resting book are pending.
 #[derive(Drop)]
 pub(crate) struct OpenBook {
     rest: RestingBook,
     used: u32,
     hour: u32,
-    settled: u32,
+    settled: SettledRegions,
     ghost grown: { rest.used ≤ used },
     ghost small: { used ≤ 1000000 },
 }

@@ -3,7 +3,9 @@ ghost use Rattle.std.specs.Prelude.{◌≡◌};
 ghost use Rattle.hourbook.specs.Calls.{open_judged};
 ghost use Rattle.hourbook.specs.Moves.{Moved};
 
+use crate::book::entries::entries;
 use crate::book::fault::BookFault;
+use crate::book::settled::SettledRegions;
 use crate::book::standing::stands;
 use crate::book::{OpenBook, Refusal, RestingBook};
 use crate::entry::row::Row;
@@ -20,14 +22,8 @@ impl RestingBook {
     fn judge_open(&self, memory: &[Row], hour: u32) -> Result<(), BookFault>
         ensures { result ≡ open_judged self.now.used memory.now hour }
     {
-        let used = self.used as usize;
-        if memory.len() < used {
-            return Err(BookFault::Entries);
-        }
-        if hour == 0 {
-            return Err(BookFault::Hour);
-        }
-        if stands(memory, used, hour) {
+        let entries = entries(memory, self.used)?;
+        if hour == 0 || stands(entries, hour) {
             return Err(BookFault::Hour);
         }
         Ok(())
@@ -37,17 +33,15 @@ impl RestingBook {
     pub(crate) fn open(self, memory: &[Row], hour: u32) -> Result<OpenBook, Refusal<RestingBook>>
         ensures { Moved (open_judged self.used memory.now hour) self (λ o. (o.rest ≡ self) × (o.used ≡ self.used) × (o.hour ≡ hour) × (o.settled ≡ 0)) result }
     {
-        match self.judge_open(memory, hour) {
-            Ok(()) => {
-                let used = self.used;
-                Ok(OpenBook {
-                    rest: self,
-                    used,
-                    hour,
-                    settled: 0,
-                })
-            }
-            Err(fault) => Err(Refusal { book: self, fault }),
+        if let Err(fault) = self.judge_open(memory, hour) {
+            return Err(Refusal { book: self, fault });
         }
+        let used = self.used;
+        Ok(OpenBook {
+            rest: self,
+            used,
+            hour,
+            settled: SettledRegions::default(),
+        })
     }
 }

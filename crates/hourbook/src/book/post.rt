@@ -3,6 +3,7 @@ ghost use Rattle.std.specs.Prelude.{◌≡◌};
 ghost use Rattle.hourbook.specs.Calls.{post_judged};
 ghost use Rattle.hourbook.specs.Moves.{Moved};
 
+use crate::book::entries::entries;
 use crate::book::fault::BookFault;
 use crate::book::{OpenBook, Refusal, RestingBook};
 use crate::entry::row::Row;
@@ -12,10 +13,8 @@ impl OpenBook {
     fn judge_post(&self, memory: &[Row]) -> Result<(), BookFault>
         ensures { result ≡ post_judged self.now.used memory.now self.now.settled }
     {
-        if memory.len() < self.used as usize {
-            return Err(BookFault::Entries);
-        }
-        if self.settled == 0 {
+        let _ = entries(memory, self.used)?;
+        if self.settled.is_empty() {
             return Err(BookFault::Nothing);
         }
         Ok(())
@@ -25,18 +24,9 @@ impl OpenBook {
     pub(crate) fn post(self, memory: &[Row]) -> Result<RestingBook, Refusal<OpenBook>>
         ensures { Moved (post_judged self.used memory.now self.settled) self (λ b. b.used ≡ self.used) result }
     {
-        match self.judge_post(memory) {
-            Ok(()) => {
-                let OpenBook {
-                    rest,
-                    used,
-                    hour: _,
-                    settled: _,
-                } = self;
-                let RestingBook { used: _ } = rest;
-                Ok(RestingBook { used })
-            }
-            Err(fault) => Err(Refusal { book: self, fault }),
+        if let Err(fault) = self.judge_post(memory) {
+            return Err(Refusal { book: self, fault });
         }
+        Ok(RestingBook { used: self.used })
     }
 }

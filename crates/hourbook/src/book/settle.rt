@@ -6,8 +6,8 @@ ghost use Rattle.hourbook.specs.Settled.{judged, credits_of, needed, work_of};
 ghost use Rattle.sharing.specs.Writes.{written};
 
 use crate::book::OpenBook;
+use crate::book::entries::entries;
 use crate::book::fault::BookFault;
-use crate::book::settled::{is_settled, with_settled};
 use crate::entry::credit::Origin;
 use crate::entry::row::Row;
 use crate::hourfile::ownership::Ownership;
@@ -23,20 +23,17 @@ impl OpenBook {
         region: &R,
         table: &Ownership,
         room: usize,
-        places: usize,
+        memory: &[Row],
     ) -> Result<i64, BookFault>
-        ensures answer { result ≡ settle_judged (judged (R.meaning region.now) (lines_in table.now) room) table.now self.now.used places self.now.settled }
-        ensures facts { IfOk result (Admits (R.meaning region.now) table.now self.now.used room places) }
+        ensures answer { result ≡ settle_judged (judged (R.meaning region.now) (lines_in table.now) room) table.now self.now.used (length memory.now) self.now.settled }
+        ensures facts { IfOk result (Admits (R.meaning region.now) table.now self.now.used room (length memory.now)) }
     {
         let income = judge(region, table, room)?;
-        let used = self.used as usize;
-        if places < used {
-            return Err(BookFault::Entries);
-        }
-        if is_settled(self.settled, table.region) {
+        let used = entries(memory, self.used)?.len();
+        if self.settled.contains(table.region) {
             return Err(BookFault::Settled);
         }
-        if places.min(PLACES) < used + entries_needed(income, table) {
+        if memory.len().min(PLACES) < used + entries_needed(income, table) {
             return Err(BookFault::Full);
         }
         Ok(income)
@@ -57,7 +54,7 @@ impl OpenBook {
         ensures book { IfOk result (λ income. Advanced self.old self.new table.now income) }
         ensures kept { OnErr result (self.new ≡ self.old) }
     {
-        let income = self.judge_settle(region, table, work.len(), memory.len())?;
+        let income = self.judge_settle(region, table, work.len(), memory)?;
         let origin = Origin {
             hour: self.hour,
             region: table.region,
@@ -71,7 +68,7 @@ impl OpenBook {
             memory,
             self.used as usize,
         );
-        self.settled = with_settled(self.settled, table.region);
+        self.settled = self.settled.with(table.region);
         self.used += entries_needed(income, table) as u32;
         Ok(income)
     }

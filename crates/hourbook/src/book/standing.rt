@@ -1,30 +1,24 @@
 //! Whether an hour stands.
-ghost use Rattle.std.specs.Prelude.{◌≡◌, ◌≤◌, length, take};
-ghost use Rattle.hourbook.specs.Standing.{standing};
+ghost use Rattle.std.specs.Prelude.{◌≡◌, ◌==◌, ◌&&◌};
+ghost use Rattle.hourbook.specs.Standing.{decides, standing};
 
 use crate::entry::kind::EntryKind;
 use crate::entry::row::Row;
 
-// An hour stands where the last of its entries of kind C or T has kind C. Looks from the last entry that counts
-// backward.
-pub(crate) fn stands(entries: &[Row], used: usize, hour: u32) -> bool
-    requires { used ≤ length entries.now }
-    ensures { result ≡ standing hour (take used entries.now) }
+// Whether an entry decides if the hour stands.
+fn decides(e: &Row, hour: u32) -> bool
+    ensures { result ≡ (e.now.hour == hour && decides e.now.kind) }
 {
-    let mut i = used;
-    let found = loop {
-        if i == 0 {
-            break false;
-        }
-        i -= 1;
-        let e = entries[i];
-        if e.hour == hour {
-            match e.kind {
-                EntryKind::Credit => break true,
-                EntryKind::TakenBack => break false,
-                EntryKind::Payment => {}
-            }
-        }
-    };
-    found
+    e.hour == hour && e.kind != EntryKind::Payment
+}
+
+// An hour stands where the last of its entries of kind C or T has kind C. Looks from the last entry backward.
+pub(crate) fn stands(entries: &[Row], hour: u32) -> bool
+    ensures { result ≡ standing hour entries.now }
+{
+    entries
+        .iter()
+        .rev()
+        .find(|e| decides(e, hour))
+        .is_some_and(|e| e.kind == EntryKind::Credit)
 }

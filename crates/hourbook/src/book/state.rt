@@ -4,8 +4,9 @@ ghost use Rattle.hourbook.specs.Calls.{statement_judged};
 ghost use Rattle.hourbook.specs.StatementAnswers.{text, over};
 
 use crate::book::RestingBook;
+use crate::book::entries::entries;
 use crate::book::fault::BookFault;
-use crate::book::statement::{balance, measured, put_text};
+use crate::book::statement::Statement;
 use crate::entry::row::Row;
 
 impl RestingBook {
@@ -21,18 +22,14 @@ impl RestingBook {
         ensures within { IfOk result (λ n. n ≤ length out.new) }
         ensures memory { out.new ≡ (if is_ok result then over (text owner self.now.used memory.now) out.old else out.old) }
     {
-        let used = self.used as usize;
-        if memory.len() < used {
-            return Err(BookFault::Entries);
-        }
+        let entries = entries(memory, self.used)?;
         if owner < 1 || owner > 64 {
             return Err(BookFault::Owner);
         }
-        let counting = &memory[..used];
-        let sum = balance(counting, owner);
-        match measured(counting, owner, sum, out.len()) {
-            None => Err(BookFault::Statement),
-            Some(_) => Ok(put_text(out, counting, owner, sum)),
+        let statement = Statement::of(entries, owner);
+        if out.len() < statement.len() {
+            return Err(BookFault::Statement);
         }
+        Ok(statement.write(out))
     }
 }

@@ -1,129 +1,81 @@
-//! An owner's statement, measured and written.
-ghost use Rattle.std.specs.Prelude.{◌≡◌, ◌+◌, ◌≤◌, [], ◌∷◌, length, pos, unsigned_abs};
-ghost use Rattle.hourbook.specs.Amounts.{read_amount};
+//! An owner's statement.
+ghost use Rattle.std.specs.Prelude.{◌≡◌, ◌^◌, ◌-◌, ◌≤◌, min, length};
 ghost use Rattle.hourbook.specs.Wrote.{Wrote};
-ghost use Rattle.hourbook.specs.Statements.{fields, owner_line, entry_line, balance_line, own, balance_of, text_of};
-ghost use Rattle.hourbook.specs.StatementAnswers.{fitting};
+ghost use Rattle.hourbook.specs.Statements.{balance_of, own, statement_of};
 
-use crate::book::text::{line_len, put_line};
+use crate::book::sink::{Count, Page, Sink};
+use crate::book::text::put_line;
 use crate::entry::entry::Entry;
 use crate::entry::row::Row;
 
-// The amount that an entry is read as.
-fn amount(e: &Row) -> i64
-    ensures value { result ≡ read_amount e.now.amount }
-    ensures bound { unsigned_abs result ≤ 2000000000 }
-{
-    i64::from(Entry::of(e).amount)
-}
-
-// The numbers of an entry's line.
-fn shown(e: &Row) -> [i64; 5]
-    ensures { result ≡ fields e.now }
-{
-    [
-        e.hour as i64,
-        e.region as i64,
-        e.line as i64,
-        e.leg as i64,
-        amount(e),
-    ]
-}
-
 // What the owner's entries add to.
-pub(crate) fn balance(entries: &[Row], owner: u8) -> i64
+fn balance(entries: &[Row], owner: u8) -> i64
     requires { length entries.now ≤ 4294967295 }
     ensures { result ≡ balance_of (own owner entries.now) }
 {
     let mut sum: i64 = 0;
-    for e in entries {
-        if e.owner == owner {
-            sum += amount(e);
+    for row in entries {
+        let entry = Entry::from(row);
+        if entry.owner == owner {
+            sum += i64::from(entry.amount.get());
         }
     }
     sum
 }
 
-// The number of the first line.
-fn heading(owner: u8) -> [i64; 1]
-    ensures { result ≡ pos owner ∷ [] }
-{
-    [owner as i64]
+// The owner's lines among the entries, under the owner and above what they add to.
+#[derive(Clone, Copy)]
+pub(crate) struct Statement<'a> {
+    owner: u8,
+    entries: &'a [Row],
+    balance: i64,
+    ghost adds: { balance ≡ balance_of (own owner entries.now) },
 }
 
-fn entry_len(e: &Row) -> usize
-    ensures value { result ≡ length (entry_line e.now) }
-    ensures few { result ≤ 200 }
-{
-    line_len(&shown(e))
-}
-
-fn put_entry(out: &mut [u8], at: usize, e: &Row) -> usize
-    requires { at + length (entry_line e.now) ≤ length out.old }
-    ensures { Wrote out.old out.new at result (entry_line e.now) }
-{
-    put_line(out, at, e.kind.letter(), &shown(e))
-}
-
-fn owner_len(owner: u8) -> usize
-    ensures value { result ≡ length (owner_line owner) }
-    ensures few { result ≤ 200 }
-{
-    line_len(&heading(owner))
-}
-
-fn balance_len(balance: i64) -> usize
-    ensures value { result ≡ length (balance_line balance) }
-    ensures few { result ≤ 200 }
-{
-    line_len(&[balance])
-}
-
-fn put_owner(out: &mut [u8], at: usize, owner: u8) -> usize
-    requires { at + length (owner_line owner) ≤ length out.old }
-    ensures { Wrote out.old out.new at result (owner_line owner) }
-{
-    put_line(out, at, b'O', &heading(owner))
-}
-
-fn put_balance(out: &mut [u8], at: usize, balance: i64) -> usize
-    requires { at + length (balance_line balance) ≤ length out.old }
-    ensures { Wrote out.old out.new at result (balance_line balance) }
-{
-    put_line(out, at, b'B', &[balance])
-}
-
-// The length of the text, where it finds its room.
-pub(crate) fn measured(entries: &[Row], owner: u8, balance: i64, room: usize) -> Option<usize>
-    ensures { result ≡ fitting room (length (text_of owner balance (own owner entries.now))) }
-{
-    let ends = owner_len(owner) + balance_len(balance);
-    if room < ends {
-        return None;
+impl<'a> Statement<'a> {
+    pub(crate) fn of(entries: &'a [Row], owner: u8) -> Statement<'a>
+        requires { length entries.now ≤ 4294967295 }
+        ensures owner { result.owner ≡ owner }
+        ensures entries { result.entries.now ≡ entries.now }
+    {
+        Statement {
+            owner,
+            entries,
+            balance: balance(entries, owner),
+        }
     }
-    let mut left = room - ends;
-    for e in entries {
-        if e.owner == owner {
-            let len = entry_len(e);
-            if left < len {
-                return None;
+
+    // The text, once for all that take it.
+    fn put<S: Sink>(&self, sink: &mut S)
+        requires { S.has_room sink.old (length (statement_of self.now.owner (own self.now.owner self.now.entries.now))) }
+        ensures { S.took sink.old (statement_of self.now.owner (own self.now.owner self.now.entries.now)) sink.new }
+    {
+        put_line(sink, b'O', &[i64::from(self.owner)]);
+        for row in self.entries {
+            let entry = Entry::from(row);
+            if entry.owner == self.owner {
+                put_line(sink, entry.kind.letter(), &entry.numbers());
             }
-            left -= len;
         }
+        put_line(sink, b'B', &[self.balance]);
     }
-    Some(room - left)
-}
 
-// Writes the text into the first bytes of `out`, and says how many.
-pub(crate) fn put_text(out: &mut [u8], entries: &[Row], owner: u8, balance: i64) -> usize
-    requires { length (text_of owner balance (own owner entries.now)) ≤ length out.old }
-    ensures { Wrote out.old out.new 0 result (text_of owner balance (own owner entries.now)) }
-{
-    let mut w = put_owner(out, 0, owner);
-    for e in entries {
-        if e.owner == owner {
-            w = put_entry(out, w, e);
-        }
+    // How many bytes the text has.
+    pub(crate) fn len(&self) -> usize
+        ensures { result ≡ min (length (statement_of self.now.owner (own self.now.owner self.now.entries.now))) (2 ^ 64 - 1) }
+    {
+        let mut count = Count::default();
+        self.put(&mut count);
+        count.bytes
     }
-    put_balance(out, w, balance)
+
+    // Writes the text into the first bytes of `out`, and says how many.
+    pub(crate) fn write(&self, out: &mut [u8]) -> usize
+        requires { length (statement_of self.now.owner (own self.now.owner self.now.entries.now)) ≤ length out.old }
+        ensures { Wrote out.old out.new 0 result (statement_of self.now.owner (own self.now.owner self.now.entries.now)) }
+    {
+        let mut page = Page::new(out);
+        self.put(&mut page);
+        page.filled()
+    }
 }

@@ -7,14 +7,14 @@ use crate::entry::row::Row;
 use sharing::{Amount, Keeping, Receiving};
 
 // The hour and the region that an entry comes from.
-#[derive(Clone, Copy)]
+#[derive(Clone, Copy, Debug, PartialEq, Eq)]
 pub(crate) struct Origin {
     pub(crate) hour: u32,
     pub(crate) region: u8,
 }
 
 // Whether shares are received, or borne: the amounts of the latter are negated.
-#[derive(Clone, Copy)]
+#[derive(Clone, Copy, Debug, PartialEq, Eq)]
 pub(crate) enum Direction {
     Received,
     Borne,
@@ -34,7 +34,7 @@ impl Direction {
 }
 
 // What the credits of one leg have in common. Line and leg are 0 where an income below 0 is shared.
-#[derive(Clone, Copy)]
+#[derive(Clone, Copy, Debug, PartialEq, Eq)]
 pub(crate) struct Credit {
     pub(crate) origin: Origin,
     pub(crate) line: u8,

@@ -1,9 +1,10 @@
 //! An entry: what a place of memory is read as.
-ghost use Rattle.std.specs.Prelude.{◌≡◌, ◌≤◌, unsigned_abs};
-ghost use Rattle.hourbook.specs.Amounts.{read_amount};
+ghost use Rattle.std.specs.Prelude.{◌≡◌, [], ◌∷◌, pos};
+ghost use Rattle.hourbook.specs.Entries.{IsReadAs};
 
 use crate::entry::kind::EntryKind;
 use crate::entry::row::Row;
+use crate::within::Within;
 
 // Its amount lies within two billion cents either way, so that a sum over all entries of a book cannot overflow.
 #[derive(Clone, Copy)]
@@ -14,24 +15,29 @@ pub(crate) struct Entry {
     pub(crate) line: u8,
     pub(crate) leg: u8,
     pub(crate) owner: u8,
-    pub(crate) amount: i32,
-    ghost bounded: { unsigned_abs amount ≤ 2000000000 },
+    pub(crate) amount: Within<2_000_000_000>,
 }
 
-const LARGEST: i32 = 2_000_000_000;
-
 impl Entry {
-    // An amount out of range is read as 0, and the other fields as they are.
-    pub(crate) fn of(row: &Row) -> Entry
-        ensures kind { result.kind ≡ row.now.kind }
-        ensures place { (result.hour ≡ row.now.hour) × (result.region ≡ row.now.region) × (result.line ≡ row.now.line) × (result.leg ≡ row.now.leg) × (result.owner ≡ row.now.owner) }
-        ensures amount { result.amount ≡ read_amount row.now.amount }
+    // The numbers of its line in a statement.
+    pub(crate) fn numbers(&self) -> [i64; 5]
+        ensures { result ≡ pos self.now.hour ∷ pos self.now.region ∷ pos self.now.line ∷ pos self.now.leg ∷ self.now.amount.value ∷ [] }
     {
-        let amount = if row.amount < -LARGEST || row.amount > LARGEST {
-            0
-        } else {
-            row.amount
-        };
+        [
+            i64::from(self.hour),
+            i64::from(self.region),
+            i64::from(self.line),
+            i64::from(self.leg),
+            i64::from(self.amount.get()),
+        ]
+    }
+}
+
+// An amount out of range is read as 0, and the other fields as they are.
+impl From<&Row> for Entry {
+    ghost from_gives = { λ row e. IsReadAs row.now e };
+
+    fn from(row: &Row) -> Entry {
         Entry {
             kind: row.kind,
             hour: row.hour,
@@ -39,7 +45,7 @@ impl Entry {
             line: row.line,
             leg: row.leg,
             owner: row.owner,
-            amount,
+            amount: Within::try_from(row.amount).unwrap_or_default(),
         }
     }
 }

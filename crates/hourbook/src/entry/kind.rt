@@ -3,7 +3,7 @@ ghost use Rattle.std.specs.Prelude.{◌≡◌};
 ghost use Rattle.hourbook.specs.Rows.{letter_of};
 
 // A credit of a settled hour, a credit taken back, or a payment to an owner.
-#[derive(Clone, Copy, PartialEq)]
+#[derive(Clone, Copy, Debug, PartialEq, Eq)]
 pub(crate) enum EntryKind {
     Credit,
     TakenBack,

@@ -2,7 +2,7 @@
 use crate::entry::kind::EntryKind;
 
 // Any amount may lie here. What an entry reads from it is within range (see `Entry`).
-#[derive(Clone, Copy)]
+#[derive(Clone, Copy, Debug, PartialEq, Eq)]
 pub(crate) struct Row {
     pub(crate) hour: u32,
     pub(crate) amount: i32,

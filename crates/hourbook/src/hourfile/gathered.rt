@@ -5,7 +5,7 @@ ghost use Rattle.hourbook.specs.Naming.{census_lines};
 ghost use Rattle.hourbook.specs.SortedRecords.{plus, said, unsorted};
 ghost use Rattle.hourbook.specs.declared.hourfile.«record».Record.TheVariants.{Zone, Border as RecordBorder, Leg, Loss};
 
-use crate::hourfile::border::{Border, Capacity};
+use crate::hourfile::border::Border;
 use crate::hourfile::census::Census;
 use crate::hourfile::fault::FileFault;
 use crate::hourfile::position::NetPosition;
@@ -56,6 +56,7 @@ impl Gathered {
         let mut gathered = Gathered::new(heap, census)?;
         let mut records = Records::of(bytes);
         let mut place = 0;
+        // no `for` over `records.by_ref()`: tried, and after one the proof knows nothing of `records`
         while let Some(record) = records.next() {
             place += 1;
             gathered.take(record, place)?;
@@ -74,10 +75,7 @@ impl Gathered {
             Record::Border(border) => self.take_border(border, place),
             Record::Leg(leg) => self.take_leg(leg, place),
             Record::Loss(loss) => self.take_loss(loss, place),
-            Record::Owner(owner) => {
-                self.owners.push(owner)?;
-                Ok(())
-            }
+            Record::Owner(owner) => Ok(self.owners.push(owner)?),
             Record::Header(_) | Record::Factor(_) | Record::End => Ok(()),
         }
     }
@@ -97,29 +95,14 @@ impl Gathered {
     fn take_border(&mut self, record: BorderRecord, place: usize) -> Result<(), FileFault>
         ensures { OnOk result (said self.new ≡ plus (said self.old) (RecordBorder «record»)) }
     {
-        let BorderRecord {
-            near,
-            far,
-            capacity,
-        } = record;
-        let capacity = Capacity::try_from(capacity).map_err(|_| FileFault::Range { place })?;
-        self.borders.push(Border {
-            near,
-            far,
-            capacity,
-        })?;
-        Ok(())
+        let border = Border::try_from(record).map_err(|_| FileFault::Range { place })?;
+        Ok(self.borders.push(border)?)
     }
 
     fn take_leg(&mut self, leg: LegRecord, place: usize) -> Result<(), FileFault>
         ensures { OnOk result (said self.new ≡ plus (said self.old) (Leg leg)) }
     {
-        let Ok(before) = u8::try_from(self.legs.len()) else {
-            return Err(FileFault::Count { place });
-        };
-        let Some(number) = before.checked_add(1) else {
-            return Err(FileFault::Count { place });
-        };
+        let number = u8::try_from(self.legs.len() + 1).map_err(|_| FileFault::Count { place })?;
         let LegRecord { line, contribution } = leg;
         self.legs.push(NumberedLeg {
             number,
@@ -133,10 +116,8 @@ impl Gathered {
         ensures { OnOk result (said self.new ≡ plus (said self.old) (Loss loss)) }
     {
         let k = usize::from(loss.line).saturating_sub(1);
-        if k >= self.losses.len() {
-            return Err(FileFault::Name { place });
-        }
-        self.losses[k] = loss.loss;
+        let held = self.losses.get_mut(k).ok_or(FileFault::Name { place })?;
+        *held = loss.loss;
         Ok(())
     }
 }

@@ -8,7 +8,7 @@ ghost use Rattle.hourbook.specs.Heading.{Heads};
 ghost use Rattle.hourbook.specs.declared.hourfile.«record».Header.{Header as Headed};
 ghost use Rattle.hourbook.specs.declared.hourfile.«record».Record.TheVariants.{Header as RecordHeader};
 ghost use Rattle.hourbook.specs.Lawful.{method_of};
-ghost use Rattle.hourbook.specs.LawfulFile.{FirstBroken, LawfulFile};
+ghost use Rattle.hourbook.specs.LawfulFile.{FirstBroken, Formed, LawfulFile};
 ghost use Rattle.hourbook.specs.Counting.{Counted, Miscounts};
 ghost use Rattle.hourbook.specs.Naming.{NamesBroken, NamesKept, census_lines};
 ghost use Rattle.hourbook.specs.Numbering.{Numbered, lines_of};
@@ -22,29 +22,36 @@ use crate::hourfile::census::Census;
 use crate::hourfile::fault::FileFault;
 use crate::hourfile::method::Method;
 use crate::hourfile::names::Names;
-use crate::hourfile::order::Reader;
+use crate::hourfile::order::Phase;
+use crate::hourfile::ranges::Ranges;
 use crate::hourfile::record::{Header, Record, first_record};
 use crate::hourfile::records::Records;
-use crate::hourfile::sums::Sums;
+use crate::hourfile::rule::follow;
 use crate::hourfile::tally::Tally;
-
-// What the owners' keys of a leg add to.
-const WHOLE: u16 = 10_000;
+use crate::hourfile::wholeness::{Contributions, Keys, add_up};
 
 // Allocates nothing, so that no fault is for want of memory.
 pub(crate) fn judge(bytes: &[u8]) -> Result<Census, FileFault>
     ensures rules { MatchResult result (LawfulFile bytes.now) (FirstBroken bytes.now) }
     ensures heads { MatchResult result (Heads bytes.now) (λ e. 0 < number_of e) }
 {
-    whole(bytes)?;
-    let header = order(bytes)?;
-    let tally = counts(bytes, header.method())?;
-    let method = ranges(bytes, header)?;
-    let census = Census::of(header, method, tally);
+    let census = formed(bytes)?;
     names(bytes, census)?;
     contributions(bytes, census)?;
     keys(bytes, census)?;
     Ok(census)
+}
+
+// The records are whole, in order, not too many or too few, and in their ranges.
+fn formed(bytes: &[u8]) -> Result<Census, FileFault>
+    ensures rules { MatchResult result (Formed bytes.now) (FirstBroken bytes.now) }
+    ensures heads { MatchResult result (Heads bytes.now) (λ e. 0 < number_of e) }
+{
+    whole(bytes)?;
+    let header = order(bytes)?;
+    let tally = counts(bytes, header.method())?;
+    let method = ranges(bytes, header)?;
+    Ok(Census::of(header, method, tally))
 }
 
 // Every kind is known, and no body is cut short.
@@ -54,14 +61,14 @@ fn whole(bytes: &[u8]) -> Result<(), FileFault>
 {
     let mut records = Records::of(bytes);
     let mut read = 0;
+    // Not `by_ref().count()`, whose contract says nothing of what it leaves unread: the proof does not close.
     while let Some(_) = records.next() {
         read += 1;
     }
-    if records.is_spent() {
-        Ok(())
-    } else {
-        Err(FileFault::Unread { place: read + 1 })
+    if !records.is_spent() {
+        return Err(FileFault::Unread { place: read + 1 });
     }
+    Ok(())
 }
 
 // The records stand in order, so that the first is the header.
@@ -69,28 +76,20 @@ fn order(bytes: &[u8]) -> Result<Header, FileFault>
     ensures rule { MatchResult result (WellOrdered bytes.now) (Disordered bytes.now) }
     ensures number { MatchResult result (λ h. Begins bytes.now (RecordHeader h)) (λ e. number_of e ≡ 2) }
 {
-    let mut reader = Reader::new();
-    let mut records = Records::of(bytes);
-    let mut place = 0;
-    while let Some(record) = records.next() {
-        place += 1;
-        if !reader.step(record.kind()) {
-            return Err(FileFault::Order { place });
-        }
-    }
-    if !reader.is_done() {
+    let phase = follow(bytes, Phase::Start)?;
+    if phase != Phase::Done {
         return Err(FileFault::Order { place: 0 });
     }
-    match leading_header(bytes) {
-        Some(header) => Ok(header),
-        None => Err(FileFault::Order { place: 0 }),
-    }
+    leading_header(bytes).ok_or(FileFault::Order { place: 0 })
 }
 
 fn leading_header(bytes: &[u8]) -> Option<Header>
     ensures { MatchOption result ((h : Headed) → Begins bytes.now (RecordHeader h) → ⊥) (λ h. Begins bytes.now (RecordHeader h)) }
 {
-    first_record(bytes)?.header()
+    match first_record(bytes)? {
+        Record::Header(header) => Some(header),
+        _ => None,
+    }
 }
 
 // No kind comes too often, and none is missing.
@@ -98,15 +97,7 @@ fn counts(bytes: &[u8], method: Option<Method>) -> Result<Tally, FileFault>
     ensures rule { MatchResult result (Counted bytes.now method) (Miscounts bytes.now method) }
     ensures limits { MatchResult result (λ t. WithinLimits t × Furnished t method) (λ e. number_of e ≡ 3) }
 {
-    let mut tally = Tally::new();
-    let mut records = Records::of(bytes);
-    let mut place = 0;
-    while let Some(record) = records.next() {
-        place += 1;
-        if !tally.add(record.kind()) {
-            return Err(FileFault::Count { place });
-        }
-    }
+    let tally = follow(bytes, Tally::new())?;
     if !tally.suffices(method) {
         return Err(FileFault::Count { place: 0 });
     }
@@ -118,17 +109,8 @@ fn ranges(bytes: &[u8], header: Header) -> Result<Method, FileFault>
     ensures rule { MatchResult result (Ranged bytes.now header) (OutOfRange bytes.now header) }
     ensures number { MatchResult result (λ m. method_of header.method ≡ Some m) (λ e. number_of e ≡ 4) }
 {
-    let Some(method) = header.method() else {
-        return Err(FileFault::Range { place: 1 });
-    };
-    let mut records = Records::of(bytes);
-    let mut place = 0;
-    while let Some(record) = records.next() {
-        place += 1;
-        if !record.in_range(method) {
-            return Err(FileFault::Range { place });
-        }
-    }
+    let method = header.method().ok_or(FileFault::Range { place: 1 })?;
+    follow(bytes, Ranges { method })?;
     Ok(method)
 }
 
@@ -137,15 +119,7 @@ fn names(bytes: &[u8], census: Census) -> Result<(), FileFault>
     ensures rule { MatchResult result (λ _. NamesKept bytes.now census) (NamesBroken bytes.now census) }
     ensures number { IfErr result (λ e. number_of e ≡ 5) }
 {
-    let mut names = Names::of(census);
-    let mut records = Records::of(bytes);
-    let mut place = 0;
-    while let Some(record) = records.next() {
-        place += 1;
-        if !names.admits(&record) {
-            return Err(FileFault::Name { place });
-        }
-    }
+    follow(bytes, Names::of(census))?;
     Ok(())
 }
 
@@ -154,28 +128,7 @@ fn contributions(bytes: &[u8], census: Census) -> Result<(), FileFault>
     ensures rule { MatchResult result (λ _. AllContribute bytes.now (census_lines census)) (NoneContributes bytes.now (census_lines census)) }
     ensures number { IfErr result (λ e. (number_of e ≡ 6) × Numbered (lines_of census.method census.zones census.borders) (place_of e)) }
 {
-    let sums = contribution_sums(bytes);
-    for line in 1..=census.lines() {
-        if sums.of(line) == 0 {
-            return Err(FileFault::Contribution {
-                line: line as usize,
-            });
-        }
-    }
-    Ok(())
-}
-
-fn contribution_sums(bytes: &[u8]) -> Sums
-    ensures { SumsOf contribution_to bytes.now result.amounts }
-{
-    let mut sums = Sums::new();
-    let mut records = Records::of(bytes);
-    while let Some(record) = records.next() {
-        if let Some(leg) = record.leg() {
-            sums.add(leg.line, leg.contribution);
-        }
-    }
-    sums
+    add_up::<Contributions>(bytes, census.lines())
 }
 
 // Every leg is owned whole.
@@ -183,26 +136,7 @@ fn keys(bytes: &[u8], census: Census) -> Result<(), FileFault>
     ensures rule { MatchResult result (λ _. AllOwned bytes.now census.legs) (NotOwned bytes.now census.legs) }
     ensures number { IfErr result (λ e. (number_of e ≡ 7) × Numbered census.legs (place_of e)) }
 {
-    let sums = key_sums(bytes);
-    for leg in 1..=census.legs {
-        if sums.of(leg) != WHOLE {
-            return Err(FileFault::Keys { leg: leg as usize });
-        }
-    }
-    Ok(())
-}
-
-fn key_sums(bytes: &[u8]) -> Sums
-    ensures { SumsOf key_to bytes.now result.amounts }
-{
-    let mut sums = Sums::new();
-    let mut records = Records::of(bytes);
-    while let Some(record) = records.next() {
-        if let Some(owner) = record.owner() {
-            sums.add(owner.leg, owner.key);
-        }
-    }
-    sums
+    add_up::<Keys>(bytes, census.legs)
 }
 
 #[cfg(test)]
@@ -212,10 +146,7 @@ mod tests {
     use std::test::Fail;
 
     fn fault(bytes: &[u8]) -> Option<FileFault> {
-        match judge(bytes) {
-            Ok(_) => None,
-            Err(fault) => Some(fault),
-        }
+        judge(bytes).err()
     }
 
     // A flow-based file: its zones at one price, then the rest.

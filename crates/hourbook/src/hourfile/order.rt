@@ -1,11 +1,15 @@
 //! The order of an hour file's records.
-ghost use Rattle.std.specs.Prelude.{◌≡◌, true, Decides};
+ghost use Rattle.std.specs.Prelude.{IsTrue};
+ghost use Rattle.hourbook.specs.Kinds.{kind_of};
 ghost use Rattle.hourbook.specs.Order.{may_stand, phase_after};
+ghost use Rattle.hourbook.specs.declared.hourfile.fault.FileFault.TheVariants.{Order};
 
-use crate::hourfile::record::Kind;
+use crate::hourfile::fault::FileFault;
+use crate::hourfile::record::{Kind, Record};
+use crate::hourfile::rule::Rule;
 
-// The kind that the reader came to last. Every list of records may be empty.
-#[derive(Clone, Copy)]
+// The kind that came last. Every list of records may be empty.
+#[derive(Clone, Copy, Debug, PartialEq, Eq)]
 pub(crate) enum Phase {
     Start,
     Zones,
@@ -17,45 +21,30 @@ pub(crate) enum Phase {
     Done,
 }
 
-#[derive(Drop)]
-pub(crate) struct Reader {
-    phase: Phase,
-}
+impl Rule for Phase {
+    ghost passes = { λ p r. IsTrue (may_stand p (kind_of r)) };
 
-impl Reader {
-    pub(crate) fn new() -> Reader
-        ensures { result.phase ≡ Phase.Start }
-    {
-        Reader {
-            phase: Phase::Start,
-        }
+    ghost after = { λ p r. phase_after p (kind_of r) };
+
+    ghost fault = { Order };
+
+    fn fault_at(place: usize) -> FileFault {
+        FileFault::Order { place }
     }
 
-    // Goes on by one record, or stays where such a record may not stand.
-    pub(crate) fn step(&mut self, kind: Kind) -> bool
-        ensures test { result ≡ may_stand self.old.phase kind }
-        ensures phase { self.new.phase ≡ phase_after self.old.phase kind }
-    {
+    fn admits(&mut self, record: &Record) -> bool {
         use Phase::*;
-        match (self.phase, kind) {
-            (Start, Kind::Header) => self.phase = Zones,
-            (Zones, Kind::Zone) => {}
-            (Zones | Borders, Kind::Border) => self.phase = Borders,
-            (Zones | Borders | Legs, Kind::Leg) => self.phase = Legs,
-            (Zones | Borders | Legs | Factors, Kind::Factor) => self.phase = Factors,
-            (Zones | Borders | Legs | Factors | Losses, Kind::Loss) => self.phase = Losses,
-            (Zones | Borders | Legs | Factors | Losses | Owners, Kind::Owner) => {
-                self.phase = Owners;
-            }
-            (Zones | Borders | Legs | Factors | Losses | Owners, Kind::End) => self.phase = Done,
+        *self = match (*self, record.kind()) {
+            (Start, Kind::Header) => Zones,
+            (Zones, Kind::Zone) => Zones,
+            (Zones | Borders, Kind::Border) => Borders,
+            (Zones | Borders | Legs, Kind::Leg) => Legs,
+            (Zones | Borders | Legs | Factors, Kind::Factor) => Factors,
+            (Zones | Borders | Legs | Factors | Losses, Kind::Loss) => Losses,
+            (Zones | Borders | Legs | Factors | Losses | Owners, Kind::Owner) => Owners,
+            (Zones | Borders | Legs | Factors | Losses | Owners, Kind::End) => Done,
             _ => return false,
-        }
+        };
         true
-    }
-
-    pub(crate) fn is_done(&self) -> bool
-        ensures { Decides result (self.now.phase ≡ Phase.Done) }
-    {
-        matches!(self.phase, Phase::Done)
     }
 }

@@ -1,12 +1,15 @@
 //! The ranges of the numbers of an hour file.
-ghost use Rattle.std.specs.Prelude.{Decides};
+ghost use Rattle.std.specs.Prelude.{◌↔◌, IsTrue};
 ghost use Rattle.hourbook.specs.Lawful.{CapacityInRange, InRange};
+ghost use Rattle.hourbook.specs.declared.hourfile.fault.FileFault.TheVariants.{Range};
 
 use crate::hourfile::border::Capacity;
+use crate::hourfile::fault::FileFault;
 use crate::hourfile::method::Method;
 use crate::hourfile::position::NetPosition;
 use crate::hourfile::price::Price;
 use crate::hourfile::record::{BorderRecord, Record};
+use crate::hourfile::rule::Rule;
 
 const REGIONS: u8 = 32;
 
@@ -18,29 +21,46 @@ const OWNERS: u8 = 64;
 
 const LARGEST_KEY: u16 = 10_000;
 
+// The ranges of a file of this method.
+#[derive(Clone, Copy, Debug, PartialEq, Eq)]
+pub(crate) struct Ranges {
+    pub(crate) method: Method,
+}
+
+impl Rule for Ranges {
+    ghost passes = { λ s r. InRange s.method r };
+
+    ghost after = { λ s _. s };
+
+    ghost fault = { Range };
+
+    fn fault_at(place: usize) -> FileFault {
+        FileFault::Range { place }
+    }
+
+    fn admits(&mut self, record: &Record) -> bool {
+        record.in_range(self.method)
+    }
+}
+
 impl Record {
     // Whether every number of the record lies in its range, in a file of this method.
     pub(crate) fn in_range(&self, method: Method) -> bool
-        ensures { Decides result (InRange method self.now) }
+        ensures { IsTrue result ↔ InRange method self.now }
     {
         match self {
             Record::Header(header) => {
                 header.hour >= 1
-                    && header.region >= 1
-                    && header.region <= REGIONS
+                    && (1..=REGIONS).contains(&header.region)
                     && header.method().is_some()
             }
             Record::Zone(zone) => {
                 Price::try_from(zone.price).is_ok() && NetPosition::try_from(zone.position).is_ok()
             }
             Record::Border(border) => border.in_range(method),
-            Record::Factor(factor) => {
-                factor.factor >= -LARGEST_FACTOR && factor.factor <= LARGEST_FACTOR
-            }
+            Record::Factor(factor) => (-LARGEST_FACTOR..=LARGEST_FACTOR).contains(&factor.factor),
             Record::Loss(loss) => loss.loss <= LARGEST_LOSS,
-            Record::Owner(owner) => {
-                owner.owner >= 1 && owner.owner <= OWNERS && owner.key <= LARGEST_KEY
-            }
+            Record::Owner(owner) => (1..=OWNERS).contains(&owner.owner) && owner.key <= LARGEST_KEY,
             Record::Leg(_) | Record::End => true,
         }
     }
@@ -49,7 +69,7 @@ impl Record {
 impl BorderRecord {
     // The flow-based method allocates no capacity.
     fn in_range(&self, method: Method) -> bool
-        ensures { Decides result (CapacityInRange method self.now.capacity) }
+        ensures { IsTrue result ↔ CapacityInRange method self.now.capacity }
     {
         match method {
             Method::FlowBased => self.capacity == 0,

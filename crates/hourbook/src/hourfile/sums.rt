@@ -26,7 +26,7 @@ impl Sums {
         ensures same { (Numbered 64 number → ⊥) → self.new ≡ self.old }
     {
         if is_numbered(number, MOST) {
-            let i = number as usize - 1;
+            let i = usize::from(number) - 1;
             self.amounts[i] = self.amounts[i].saturating_add(amount);
         }
     }
@@ -36,7 +36,7 @@ impl Sums {
         ensures none { (Numbered 64 number → ⊥) → result ≡ 0 }
     {
         if is_numbered(number, MOST) {
-            self.amounts[number as usize - 1]
+            self.amounts[usize::from(number) - 1]
         } else {
             0
         }

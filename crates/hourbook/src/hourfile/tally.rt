@@ -1,9 +1,14 @@
 //! How many records of each kind an hour file has.
-ghost use Rattle.std.specs.Prelude.{◌≡◌, Decides};
+ghost use Rattle.std.specs.Prelude.{◌≡◌, ◌↔◌, ◌+◌, ◌<◌, IsTrue};
+ghost use Rattle.std.specs.Bool.{OnFalse, OnTrue};
+ghost use Rattle.hourbook.specs.Kinds.{kind_of};
 ghost use Rattle.hourbook.specs.Tallies.{Furnished, WithinLimits, added, none_yet};
+ghost use Rattle.hourbook.specs.declared.hourfile.fault.FileFault.TheVariants.{Count};
 
+use crate::hourfile::fault::FileFault;
 use crate::hourfile::method::Method;
-use crate::hourfile::record::Kind;
+use crate::hourfile::record::Record;
+use crate::hourfile::rule::Rule;
 
 const MOST_ZONES: u8 = 16;
 
@@ -14,7 +19,7 @@ const MOST_LEGS: u8 = 64;
 const MOST_OWNERS: u8 = 128;
 
 // Factors and losses are not counted: no leg takes two for a zone, and no line two losses.
-#[derive(Clone, Copy)]
+#[derive(Clone, Copy, Debug, PartialEq, Eq)]
 pub(crate) struct Tally {
     pub(crate) zones: u8,
     pub(crate) borders: u8,
@@ -34,32 +39,50 @@ impl Tally {
         }
     }
 
-    // Counts one record more, and says whether no kind has come too often.
-    pub(crate) fn add(&mut self, kind: Kind) -> bool
-        requires { WithinLimits self.old }
-        ensures after { self.new ≡ added self.old kind }
-        ensures test { Decides result (WithinLimits self.new) }
-    {
-        match kind {
-            Kind::Zone => self.zones += 1,
-            Kind::Border => self.borders += 1,
-            Kind::Leg => self.legs += 1,
-            Kind::Owner => self.owners += 1,
-            Kind::Header | Kind::Factor | Kind::Loss | Kind::End => {}
-        }
-        self.zones <= MOST_ZONES
-            && self.borders <= MOST_BORDERS
-            && self.legs <= MOST_LEGS
-            && self.owners <= MOST_OWNERS
-    }
-
     // Whether nothing is missing that a file of this method must have.
     pub(crate) fn suffices(&self, method: Option<Method>) -> bool
-        ensures { Decides result (Furnished self.now method) }
+        ensures { IsTrue result ↔ Furnished self.now method }
     {
         match method {
             Some(Method::Coordinated) => self.zones > 0 && self.borders > 0,
             _ => self.zones > 0,
         }
     }
+}
+
+impl Rule for Tally {
+    ghost ready = { WithinLimits };
+
+    ghost passes = { λ t r. WithinLimits (added t (kind_of r)) };
+
+    ghost after = { λ t r. added t (kind_of r) };
+
+    ghost fault = { Count };
+
+    fn fault_at(place: usize) -> FileFault {
+        FileFault::Count { place }
+    }
+
+    fn admits(&mut self, record: &Record) -> bool {
+        match record {
+            Record::Zone(_) => count_one(&mut self.zones, MOST_ZONES),
+            Record::Border(_) => count_one(&mut self.borders, MOST_BORDERS),
+            Record::Leg(_) => count_one(&mut self.legs, MOST_LEGS),
+            Record::Owner(_) => count_one(&mut self.owners, MOST_OWNERS),
+            Record::Header(_) | Record::Factor(_) | Record::Loss(_) | Record::End => true,
+        }
+    }
+}
+
+// Counts one more where there is room for it.
+fn count_one(count: &mut u8, most: u8) -> bool
+    ensures test { IsTrue result ↔ (count.old < most) }
+    ensures yes { OnTrue result (count.new ≡ count.old + 1) }
+    ensures no { OnFalse result (count.new ≡ count.old) }
+{
+    let room = *count < most;
+    if room {
+        *count += 1;
+    }
+    room
 }

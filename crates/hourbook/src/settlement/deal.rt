@@ -1,5 +1,5 @@
 //! From the lines' amounts down to the owners' credits.
-ghost use Rattle.std.specs.Prelude.{◌≡◌, ◌+◌, ◌≤◌, map, length, unsigned_abs};
+ghost use Rattle.std.specs.Prelude.{◌≡◌, ◌≤◌, map, length, unsigned_abs};
 ghost use Rattle.sharing.specs.Shares.{total};
 ghost use Rattle.sharing.specs.Writes.{written};
 ghost use Rattle.sharing.specs.Levels.{dealt};
@@ -9,21 +9,15 @@ use crate::entry::credit::{Credit, Direction, Origin};
 use crate::entry::row::Row;
 use crate::hourfile::owned_leg::OwnedLeg;
 use crate::hourfile::owned_line::OwnedLine;
-use sharing::{Plain, share};
+use crate::settlement::amount::{amount_of, share_amount};
+use sharing::{Amount, Plain};
 
-// A leg's amount, credited to its owners by key. Answers the place after the last credit.
-fn deal_leg(
-    amount: u64,
-    origin: Origin,
-    line: u8,
-    leg: &OwnedLeg,
-    out: &mut [Row],
-    at: usize,
-) -> usize
-    requires small { amount ≤ 2000000000 }
-    requires room { at + length (leg_deal origin line amount leg.now) ≤ length out.old }
-    ensures memory { out.new ≡ written out.old at (leg_deal origin line amount leg.now) }
-    ensures place { result ≡ at + length (leg_deal origin line amount leg.now) }
+// A leg's amount, credited to its owners by key. Answers how many credits it wrote, from the front of `out` on.
+#[tactic(auto, using(crate::proofs::Dealing::length_leg))]
+fn deal_leg(amount: Amount, origin: Origin, line: u8, leg: &OwnedLeg, out: &mut [Row]) -> usize
+    requires { length (leg_deal origin line amount.cents leg.now) ≤ length out.old }
+    ensures memory { out.new ≡ written out.old 0 (leg_deal origin line amount.cents leg.now) }
+    ensures count { result ≡ length (leg_deal origin line amount.cents leg.now) }
 {
     let credit = Credit {
         origin,
@@ -31,33 +25,30 @@ fn deal_leg(
         leg: leg.number,
         direction: Direction::Received,
     };
-    // within the limits, so never refused
-    let _ = share(amount, leg.owners.as_slice(), &credit, out, at);
-    at + leg.owners.len()
+    share_amount(amount, &leg.owners, &credit, out);
+    leg.owners.len()
 }
 
 // A line's amount, shared over its legs by contribution and credited to their owners.
-fn deal_line(amount: u64, origin: Origin, line: &OwnedLine, out: &mut [Row], at: usize) -> usize
-    requires small { amount ≤ 2000000000 }
-    requires room { at + length (line_deal origin amount line.now) ≤ length out.old }
-    ensures memory { out.new ≡ written out.old at (line_deal origin amount line.now) }
-    ensures place { result ≡ at + length (line_deal origin amount line.now) }
+fn deal_line(amount: Amount, origin: Origin, line: &OwnedLine, out: &mut [Row]) -> usize
+    requires { length (line_deal origin amount.cents line.now) ≤ length out.old }
+    ensures memory { out.new ≡ written out.old 0 (line_deal origin amount.cents line.now) }
+    ensures count { result ≡ length (line_deal origin amount.cents line.now) }
 {
+    // no heap in settling, and a line has at most 64 legs
     let mut parts = [0i64; 64];
-    // within the limits, so never refused
-    let _ = share(amount, line.legs.as_slice(), &Plain, &mut parts, 0);
-    let mut place = at;
-    for i in 0..line.legs.len() {
-        place = deal_leg(
-            parts[i].unsigned_abs(),
+    share_amount(amount, &line.legs, &Plain, &mut parts);
+    let mut count = 0;
+    for (leg, part) in line.legs.iter().zip(&parts) {
+        count += deal_leg(
+            amount_of(*part),
             origin,
             line.number,
-            &line.legs[i],
-            out,
-            place,
+            leg,
+            &mut out[count..],
         );
     }
-    place
+    count
 }
 
 // The lines' amounts, credited to the owners of their legs, line by line.
@@ -66,17 +57,16 @@ pub(crate) fn deal_lines(
     origin: Origin,
     lines: &[OwnedLine],
     out: &mut [Row],
-    at: usize,
 ) -> usize
     requires small { total (map unsigned_abs amounts.now) ≤ 2000000000 }
     requires long { length lines.now ≤ length amounts.now }
-    requires room { at + length (dealt (line_deal origin) (map unsigned_abs amounts.now) lines.now) ≤ length out.old }
-    ensures memory { out.new ≡ written out.old at (dealt (line_deal origin) (map unsigned_abs amounts.now) lines.now) }
-    ensures place { result ≡ at + length (dealt (line_deal origin) (map unsigned_abs amounts.now) lines.now) }
+    requires room { length (dealt (line_deal origin) (map unsigned_abs amounts.now) lines.now) ≤ length out.old }
+    ensures memory { out.new ≡ written out.old 0 (dealt (line_deal origin) (map unsigned_abs amounts.now) lines.now) }
+    ensures count { result ≡ length (dealt (line_deal origin) (map unsigned_abs amounts.now) lines.now) }
 {
-    let mut place = at;
-    for i in 0..lines.len() {
-        place = deal_line(amounts[i].unsigned_abs(), origin, &lines[i], out, place);
+    let mut count = 0;
+    for (line, amount) in lines.iter().zip(amounts) {
+        count += deal_line(amount_of(*amount), origin, line, &mut out[count..]);
     }
-    place
+    count
 }

@@ -9,12 +9,13 @@ use crate::entry::credit::{Credit, Direction, Origin};
 use crate::entry::row::Row;
 use crate::hourfile::ownership::Ownership;
 use crate::region::meaning::Region;
+use crate::settlement::amount::{amount_of, share_amount};
 use crate::settlement::deal::deal_lines;
 use crate::settlement::fault::SettlementFault;
 use crate::settlement::income::income;
 use crate::settlement::line_row::LineRow;
 use crate::settlement::weights::{weigh_all, write_weights};
-use sharing::{LARGEST_AMOUNT, LARGEST_WEIGHT_SUM, Plain, share};
+use sharing::{Amount, LARGEST_AMOUNT, LARGEST_WEIGHT_SUM, Plain};
 
 // The income of a region that can be settled with this table and so many places of work memory.
 pub(crate) fn judge<R: Region>(
@@ -55,38 +56,29 @@ pub(crate) fn entries_needed(income: i64, table: &Ownership) -> usize
     }
 }
 
-// What is shared over the lines.
-fn credit_of(sum: i64) -> u64
-    ensures { result ≡ credit sum }
-{
-    if sum < 0 { 0 } else { sum.unsigned_abs() }
-}
-
 // Writes all weights, and then the lines' shares of `amount`.
-fn fill_work<R: Region>(region: &R, amount: u64, work: &mut [i64])
-    requires small { amount ≤ 2000000000 }
-    requires some { 0 < length (R.meaning region.now).lines }
+fn fill_work<R: Region>(region: &R, amount: Amount, work: &mut [i64])
     requires light { total (weights (R.meaning region.now)) ≤ 4000000000 }
     requires room { 2 * length (R.meaning region.now).lines ≤ length work.old }
-    ensures { work.new ≡ written work.old 0 (map pos (weights (R.meaning region.now) ++ shares amount (weights (R.meaning region.now)))) }
+    ensures { work.new ≡ written work.old 0 (map pos (weights (R.meaning region.now) ++ shares amount.cents (weights (R.meaning region.now)))) }
 {
     let lines = region.line_count();
+    // no heap in settling, and a region has at most 64 lines
     let mut rows = [LineRow {
         number: 0,
         weight: 0,
     }; 64];
     write_weights(region, &mut rows, work);
-    // within the limits, so never refused
-    let _ = share(amount, &rows[..lines], &Plain, work, lines);
+    share_amount(amount, &rows[..lines], &Plain, &mut work[lines..]);
 }
 
 // Credits the owners: an income by the lines' shares, a loss in equal parts.
-fn pay(sum: i64, parts: &[i64], origin: Origin, table: &Ownership, out: &mut [Row], at: usize)
+fn pay(sum: i64, parts: &[i64], origin: Origin, table: &Ownership, out: &mut [Row])
     requires small { unsigned_abs sum ≤ 2000000000 }
     requires parts { total (map unsigned_abs parts.now) ≤ 2000000000 }
     requires long { vec_len table.now.lines ≤ length parts.now }
-    requires room { at + needed sum table.now ≤ length out.old }
-    ensures { out.new ≡ written out.old at (paid origin sum (map unsigned_abs parts.now) table.now.lines.items table.now.owners.items) }
+    requires room { needed sum table.now ≤ length out.old }
+    ensures { out.new ≡ written out.old 0 (paid origin sum (map unsigned_abs parts.now) table.now.lines.items table.now.owners.items) }
 {
     if sum < 0 {
         let credit = Credit {
@@ -95,16 +87,9 @@ fn pay(sum: i64, parts: &[i64], origin: Origin, table: &Ownership, out: &mut [Ro
             leg: 0,
             direction: Direction::Borne,
         };
-        // within the limits, so never refused
-        let _ = share(
-            sum.unsigned_abs(),
-            table.owners.as_slice(),
-            &credit,
-            out,
-            at,
-        );
+        share_amount(amount_of(sum), &table.owners, &credit, out);
     } else {
-        let _ = deal_lines(parts, origin, table.lines.as_slice(), out, at);
+        deal_lines(parts, origin, &table.lines, out);
     }
 }
 
@@ -124,6 +109,6 @@ pub(crate) fn write<R: Region>(
     ensures out { out.new ≡ written out.old at (credits_of origin (R.meaning region.now) table.now) }
 {
     let lines = table.lines.len();
-    fill_work(region, credit_of(sum), work);
-    pay(sum, &work[lines..2 * lines], origin, table, out, at);
+    fill_work(region, amount_of(sum.max(0)), work);
+    pay(sum, &work[lines..2 * lines], origin, table, &mut out[at..]);
 }

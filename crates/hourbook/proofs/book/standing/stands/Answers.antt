@@ -1,20 +1,13 @@
-use Rattle.std.proofs.Common.{sym, ◌∙◌, arith}
-use Rattle.hourbook.specs.declared.entry.kind.EntryKind.TheVariants.{Credit, TakenBack, Payment}
-use Rattle.hourbook.proofs.Stands.{standing_other, standing_here}
+use Rattle.std.proofs.Common.{◌≡◌, false, reverse, sym, ap, ◌∙◌, rules, tests}
+use Rattle.std.specs.List.{find}
+use Rattle.std.specs.Option.{option_map}
+use Rattle.std.proofs.lemmas.Iterator.Adapters.{YieldsList-from_rev_slice}
+use Rattle.std.proofs.lemmas.Iterator.Search.{find_from_yields_List}
+use Rattle.hourbook.proofs.Stands.{deciding, told, standing_by_last, told_by_test}
 use Rattle.hourbook.proofs.book.standing.stands.Goals as goal
 
-pub loop-i-preserved-in-Payment : goal.loop-i-preserved-in-Payment
-loop-i-preserved-in-Payment c =
-    (omega arith, c.loop-i.invariant.1 ∙ standing_here c.args.hour c.args.entries.now c.loop-i.i _ (omega arith) (omega arith) Payment c.if-e-hour.true c.in-Payment.is)
-
-pub loop-i-preserved : goal.loop-i-preserved
-loop-i-preserved c =
-    (omega arith, c.loop-i.invariant.1 ∙ standing_other c.args.hour c.args.entries.now c.loop-i.i _ (omega arith) (omega arith) c.if-e-hour.false)
-
-pub returns-in-Credit : goal.returns-in-Credit
-returns-in-Credit c =
-    sym (c.loop-i.invariant.1 ∙ standing_here c.args.hour c.args.entries.now c.loop-i.i _ (omega arith) (omega arith) Credit c.if-e-hour.true c.in-Credit.is)
-
-pub returns-in-TakenBack : goal.returns-in-TakenBack
-returns-in-TakenBack c =
-    sym (c.loop-i.invariant.1 ∙ standing_here c.args.hour c.args.entries.now c.loop-i.i _ (omega arith) (omega arith) TakenBack c.if-e-hour.true c.in-TakenBack.is)
+pub returns : goal.returns
+returns c =
+    let found : option_map (λ x. x.now) c.find.result ≡ find (deciding c.args.hour) (reverse c.args.entries.now) = find_from_yields_List (deciding c.args.hour) _ _ c.find.result c.find.ensures.ran (YieldsList-from_rev_slice c.args.entries.now (search rules)) (λ x b q k. search (rules, tests)) in
+    let tells : c.is_some_and.result ≡ told (option_map (λ x. x.now) c.find.result) false = told_by_test (λ x. x.now) _ c.find.result c.is_some_and.result c.is_some_and.ensures (λ x p. search (rules, tests)) in
+    tells ∙ (ap (λ o. told o false) found ∙ sym (standing_by_last c.args.hour c.args.entries.now))

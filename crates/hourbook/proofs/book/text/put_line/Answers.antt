@@ -1,47 +1,45 @@
-use Rattle.std.proofs.Common.{◌+◌, [], ◌∷◌, get_or, drop, pos, arith, w64, SFits, rules}
+use Rattle.std.proofs.Common.{[], ◌∷◌, ◌+◌, length, get_or, drop, pos, w64, SFits, sym, subst, rules}
 use Rattle.std.specs.Fmt.{signed_decimal}
-use Rattle.std.proofs.lemmas.List.{length-append}
 use Rattle.std.proofs.lemmas.Int.{to_z-of_z}
+use Rattle.std.proofs.lemmas.List.{at_drop_more, at_drop_all}
 use Rattle.hourbook.specs.Text.{fields_of, line_of}
-use Rattle.hourbook.proofs.Texts.{then, underway_none, underway_more, underway_room, underway_end, field_next, field_none}
+use Rattle.hourbook.proofs.Sinking.{Underway, room_first, begun, one_more, ended}
 use Rattle.hourbook.proofs.book.text.put_line.Goals as goal
 
-pub loop-z-init : goal.loop-z-init
+pub put-requires : goal.put-requires
 unfolding line_of
-loop-z-init c = underway_none _ _ _ (omega (arith, c.put_byte-w.auto.out))
+put-requires g c =
+    room_first g.met.S.Sink.laws c.args.sink.now (c.args.letter ∷ []) (fields_of c.args.fields.now) c.requires
 
-pub put_byte-w-requires-in-loop-z : goal.put_byte-w-requires-in-loop-z
+pub loop-number-init : goal.loop-number-init
 unfolding line_of
-put_byte-w-requires-in-loop-z c =
-    let r = underway_room _ _ _ _ _ _ (field_next _ _ _ _ _ _ _ c.loop-z.invariant c.loop-z-test.true) (omega arith) in
-    omega arith
+loop-number-init g c =
+    begun g.met.S.Sink.laws c.args.sink.now c.put.new.self (c.args.letter ∷ []) (fields_of c.args.fields.now) c.requires c.put.ensures
 
-pub put_signed-w-requires : goal.put_signed-w-requires
-unfolding line_of
-put_signed-w-requires c =
-    let r = underway_room _ _ _ _ _ _ (field_next _ _ _ _ _ _ _ c.loop-z.invariant c.loop-z-test.true) (omega arith) in
-    let f : SFits w64 (get_or c.args.fields.now c.loop-z.z-index (pos 0)) = search rules in
-    rw (to_z-of_z w64 _ f) (omega (arith, length-append (signed_decimal (get_or c.args.fields.now c.loop-z.z-index (pos 0))) (fields_of (drop (c.loop-z.z-index + 1) c.args.fields.now))))
+pub put_field-requires : goal.put_field-requires
+put_field-requires g c =
+    let zs = c.args.fields.now in
+    let i = c.loop-number.number-index in
+    let f : SFits w64 (get_or zs i (pos 0)) = search rules in
+    let room = subst (λ t. g.S.Sink.has_room c.loop-number.sink (length t)) (at_drop_more fields_of zs i (pos 0) c.loop-number-test.true) c.loop-number.invariant.room in
+    subst (λ z. g.S.Sink.has_room c.loop-number.sink (length (32 ∷ signed_decimal z))) (sym (to_z-of_z w64 (get_or zs i (pos 0)) f))
+    (room_first g.met.S.Sink.laws c.loop-number.sink (32 ∷ signed_decimal (get_or zs i (pos 0))) (fields_of (drop (i + 1) zs)) room)
 
-pub loop-z-preserved : goal.loop-z-preserved
-loop-z-preserved c =
-    let f : SFits w64 (get_or c.args.fields.now c.loop-z.z-index (pos 0)) = search rules in
-    let n = field_next _ _ _ _ _ _ _ c.loop-z.invariant c.loop-z-test.true in
-    let a = underway_more _ _ _ _ _ (32 ∷ []) _ _ _ n c.put_byte-w-in-loop-z.ensures in
-    underway_more _ _ _ _ _ (signed_decimal (get_or c.args.fields.now c.loop-z.z-index (pos 0))) _ _ _ a (simp (to_z-of_z w64 _ f) at c.put_signed-w.ensures)
+pub loop-number-preserved : goal.loop-number-preserved
+loop-number-preserved g c =
+    let zs = c.args.fields.now in
+    let i = c.loop-number.number-index in
+    let f : SFits w64 (get_or zs i (pos 0)) = search rules in
+    let s = subst (Underway g.S.Sink.has_room g.S.Sink.took c.args.sink.now c.loop-number.sink (line_of c.args.letter zs)) (at_drop_more fields_of zs i (pos 0) c.loop-number-test.true) c.loop-number.invariant in
+    one_more g.met.S.Sink.laws _ _ _ _ (32 ∷ signed_decimal (get_or zs i (pos 0))) (fields_of (drop (i + 1) zs)) s (simp (to_z-of_z w64 (get_or zs i (pos 0)) f) at c.put_field.ensures)
 
-pub put_byte-requires : goal.put_byte-requires
-unfolding line_of
-put_byte-requires c =
-    let r = underway_room _ _ _ _ _ _ (field_none _ _ _ _ _ _ _ c.loop-z.invariant c.loop-z-test.false) (omega arith) in
-    omega arith
+pub put-requires-2 : goal.put-requires-2
+put-requires-2 g c =
+    let e = at_drop_all fields_of c.args.fields.now c.loop-number.number-index c.loop-number-test.false in
+    subst (λ t. g.S.Sink.has_room c.loop-number.sink (length t)) e c.loop-number.invariant.room
 
 pub returns : goal.returns
-unfolding line_of
-returns c =
-    let n = field_none _ _ _ _ _ _ _ c.loop-z.invariant c.loop-z-test.false in
-    then c.put_byte-w.ensures (underway_end _ _ _ _ _ (underway_more _ _ _ _ _ (10 ∷ []) [] _ _ n c.put_byte.ensures))
-
-pub put_byte-w-requires : goal.put_byte-w-requires
-unfolding line_of
-put_byte-w-requires c = search rules
+returns g c =
+    let e = at_drop_all fields_of c.args.fields.now c.loop-number.number-index c.loop-number-test.false in
+    let s = subst (Underway g.S.Sink.has_room g.S.Sink.took c.args.sink.now c.loop-number.sink (line_of c.args.letter c.args.fields.now)) e c.loop-number.invariant in
+    ended g.met.S.Sink.laws _ _ _ _ (10 ∷ []) s c.put-2.ensures

@@ -1,8 +1,8 @@
 use Rattle.std.proofs.Common.{drop}
-use Rattle.hourbook.specs.Text.{fields_of}
-use Rattle.hourbook.proofs.Texts.{Underway}
+use Rattle.hourbook.specs.Text.{fields_of, line_of}
+use Rattle.hourbook.proofs.Sinking.{Underway}
 use Rattle.hourbook.proofs.book.text.put_line.Given as goal
 
-abbrev pub invariant-loop-z : goal.invariant-loop-z
-invariant-loop-z l =
-    Underway l.initial.out l.out l.initial.w l.w (fields_of l.fields) (fields_of (drop l.z-index l.fields))
+abbrev pub invariant-loop-number : goal.invariant-loop-number
+invariant-loop-number g l =
+    Underway g.S.Sink.has_room g.S.Sink.took l.fn.sink l.sink (line_of l.letter l.fields) (fields_of (drop l.number-index l.fields))

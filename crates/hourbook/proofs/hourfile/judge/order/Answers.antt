@@ -1,70 +1,25 @@
-use Rattle.std.proofs.Common.{◌+◌, sym, refl, ap, ◌∙◌, inl, inr, true≢false}
-use Rattle.hourbook.specs.Order.{may_stand, phase_after}
-use Rattle.hourbook.specs.Sequence.{Opening, Ordered}
-use Rattle.hourbook.proofs.Passing.{passing_start, passing_next, passing_out, passing_end}
-use Rattle.hourbook.proofs.Sequences.{follows_held, follows_start, follows_next, follows_out, follows_done, follows_short, ordered_heads}
+use Rattle.std.proofs.Common.{◌≡◌, sym, refl, inl, inr, ◌∙◌, true≢false, rules}
+use Rattle.hourbook.specs.declared.hourfile.order.Phase.TheVariants.{Done}
+use Rattle.hourbook.specs.Sequence.{Ordered}
+use Rattle.hourbook.proofs.HandedOn.{handed_on, ok_or_told}
+use Rattle.hourbook.proofs.Passing.{first_out_same, passed_weaker}
+use Rattle.hourbook.proofs.Sequences.{opening_from, opening_in_order, ordered_done, ordered_from, ordered_heads}
 use Rattle.hourbook.proofs.hourfile.judge.order.Goals as goal
 
-pub loop-record-init : goal.loop-record-init
-loop-record-init c = (passing_start _ _ c.of-records.ensures, follows_start _ c.new-reader.ensures)
+pub returns-in_err-phase-clause-rule : goal.returns-in_err-phase-clause-rule
+returns-in_err-phase-clause-rule c =
+    let told = c.in_err-phase.ensures.first in
+    handed_on _ _ _ _ c.from_residual.ensures.1 (told.0, told.1, inl (first_out_same _ _ _ _ opening_from opening_in_order told.2))
 
-pub returns-then-not-step : goal.returns-then-not-step
-returns-then-not-step c =
-    let s = c.loop-record.invariant.0 in
-    let x = c.in-Some.record in
-    let p = c.loop-record.reader.phase in
-    let not = ap (may_stand p) (sym c.kind.ensures) ∙ (sym c.step.ensures.test ∙ c.if-not-step.true) in
-    record {
-      rule = (
-        c.loop-record.place + 1,
-        refl,
-        inl (passing_out _ _ _ _ x s c.in-Some.ensures.steps Opening (follows_held s.records p c.loop-record.invariant.1) (follows_out s.records x p c.loop-record.invariant.1 not)),
-      );
-      number = refl;
-    }
+pub returns-then-ne-clause-rule : goal.returns-then-ne-clause-rule
+returns-then-ne-clause-rule c =
+    let not_done : c.in_ok-phase.phase ≡ Done → ⊥ = λ e. true≢false (c.if-ne.ensures ∙ rw e refl) in
+    (0, refl, inr (refl, passed_weaker _ _ _ (λ rs h. (opening_from rs h.0, λ o. not_done (sym h.1 ∙ ordered_done rs o))) c.in_ok-phase.ensures.first))
 
-pub loop-record-preserved : goal.loop-record-preserved
-loop-record-preserved c =
-    let s = c.loop-record.invariant.0 in
-    let x = c.in-Some.record in
-    let p = c.loop-record.reader.phase in
-    let may = ap (may_stand p) (sym c.kind.ensures) ∙ (sym c.step.ensures.test ∙ c.if-not-step.false) in
-    let after = c.step.ensures.phase ∙ ap (phase_after p) c.kind.ensures in
-    (passing_next _ _ _ _ x s c.in-Some.ensures.steps, follows_next s.records x p c.loop-record.invariant.1 _ may after)
-
-pub returns-then-not-is_done : goal.returns-then-not-is_done
-returns-then-not-is_done c =
-    let s = c.loop-record.invariant.0 in
-    let p = c.loop-record.reader.phase in
-    record {
-      rule = (
-        0,
-        refl,
-        inr (
-          refl,
-          passing_end _ _ _ s c.in_default.ensures.steps.0 (λ rs. Opening rs × (Ordered rs → ⊥)) (
-            follows_held s.records p c.loop-record.invariant.1,
-            follows_short s.records p c.loop-record.invariant.1 (λ e. true≢false (sym (c.is_done.ensures.1 e) ∙ c.if-not-is_done.true)),
-          ),
-        ),
-      );
-      number = refl;
-    }
-
-pub returns-in-Some-leading_header : goal.returns-in-Some-leading_header
-returns-in-Some-leading_header c =
-    let s = c.loop-record.invariant.0 in
-    let ordered = follows_done s.records c.loop-record.reader.phase c.loop-record.invariant.1 (c.is_done.ensures.0 c.if-not-is_done.false) in
-    let begins = c.in-Some-leading_header.ensures in
-    record {
-      rule = (passing_end _ _ _ s c.in_default.ensures.steps.0 Ordered ordered, begins);
-      number = begins;
-    }
-
--- records in order begin with a header, so that there is one
-pub returns-in-None : goal.returns-in-None
-returns-in-None c =
-    let s = c.loop-record.invariant.0 in
-    let ordered = follows_done s.records c.loop-record.reader.phase c.loop-record.invariant.1 (c.is_done.ensures.0 c.if-not-is_done.false) in
+pub returns-clause-rule : goal.returns-clause-rule
+returns-clause-rule c =
+    let done : c.in_ok-phase.phase ≡ Done = search rules in
+    let s = c.in_ok-phase.ensures.first in
+    let ordered : Ordered s.records = ordered_from s.records s.keeps.0 (s.keeps.1 ∙ done) in
     let headed = ordered_heads s.records _ _ ordered s.reads in
-    absurd (c.in-None.ensures headed.0 headed.1)
+    rw c.ok_or.ensures.value (ok_or_told c.leading_header.result _ _ _ c.leading_header.ensures (λ none. absurd (none headed.0 headed.1)) (λ h begins. (passed_weaker _ _ _ (λ rs told. ordered_from rs told.0 (told.1 ∙ done)) s, begins)))

@@ -10,11 +10,8 @@ loop-read-init c = passing_start _ _ c.of-records.ensures
 pub loop-read-preserved : goal.loop-read-preserved
 loop-read-preserved c = passing_next _ _ _ _ c.in-Some.field-0 c.loop-read.invariant c.in-Some.ensures.steps
 
-pub returns-then-is_spent : goal.returns-then-is_spent
-returns-then-is_spent c =
+pub returns-clause-rule : goal.returns-clause-rule
+returns-clause-rule c =
     let kept = c.in_default.ensures.steps.1 in
-    let empty = nil_from_length _ (true-eqb _ 0 c.if-is_spent.ensures) in
-    record {
-      rule = (c.loop-read.invariant.records, subst (λ r. Reads c.args.bytes.now c.loop-read.invariant.records r) (sym kept ∙ empty) c.loop-read.invariant.reads);
-      number = tt;
-    }
+    let empty = nil_from_length _ (true-eqb _ 0 c.if-not-is_spent.ensures) in
+    (c.loop-read.invariant.records, subst (λ r. Reads c.args.bytes.now c.loop-read.invariant.records r) (sym kept ∙ empty) c.loop-read.invariant.reads)

@@ -1,9 +1,13 @@
-use Rattle.std.proofs.Common.{vec_items}
-use Rattle.sharing.specs.Shares.{shares}
-use Rattle.hourbook.specs.Legs.{contributions}
-use Rattle.hourbook.specs.Deals.{leg_deal}
+use Rattle.std.proofs.Common.{length, map, nat_abs, take}
+use Rattle.std.specs.Iterator.Adapters.{zip_first, zip_second}
+use Rattle.std.specs.Slice.Iter.{iter_rest}
+use Rattle.hourbook.specs.Deals.{leg_deal, line_deal}
 use Rattle.hourbook.proofs.Dealing.{Dealing}
 use Rattle.hourbook.proofs.settlement.deal.deal_line.Given as goal
 
-abbrev pub invariant-loop-i : goal.invariant-loop-i
-invariant-loop-i l = Dealing (leg_deal l.origin l.line.number) (shares l.amount (contributions (vec_items l.line.legs))) (vec_items l.line.legs) l.initial.out l.at l.i l.place l.out
+-- the parts past the last leg are left out
+abbrev pub invariant-loop-leg : goal.invariant-loop-leg
+invariant-loop-leg l =
+    let legs = iter_rest (zip_first l.leg-iterator) in
+    let parts = take (length legs) (iter_rest (zip_second l.leg-iterator)) in
+    Dealing (leg_deal l.origin l.line.number) (map nat_abs parts) legs l.initial.out (line_deal l.origin l.fn.amount.cents l.line) l.count l.out

@@ -1,40 +1,19 @@
-use Rattle.std.proofs.Common.{◌≡◌, ◌<◌, map, length, get_or, pos, nat_abs, sym, ap, ◌∙◌, arith, w64, SFits, rules}
-use Rattle.std.proofs.lemmas.Int.{to_z-of_z}
-use Rattle.std.proofs.lemmas.List.{length-map, get_or-map}
-use Rattle.hourbook.specs.Deals.{line_deal}
-use Rattle.hourbook.proofs.Dealing.{dealing_start, dealing_small, dealing_room, dealing_next, dealing_end}
+use Rattle.std.proofs.Common.{◌≡◌, ◌∷◌, map, nat_abs, inl, inr, sym, ap, ◌∙◌, rules}
+use Rattle.std.specs.Iterator.Adapters.{zip_second}
+use Rattle.std.specs.Slice.Iter.{iter_rest}
+use Rattle.std.proofs.lemmas.Slice.Zip.{either_empty_from_Zip}
+use Rattle.hourbook.proofs.Dealing.{dealing_next, dealing_end}
 use Rattle.hourbook.proofs.settlement.deal.deal_lines.Goals as goal
-use Rattle.hourbook.proofs.settlement.deal.deal_lines.Goals.{After-index-lines-i}
 
-pub loop-i-init : goal.loop-i-init
-loop-i-init c =
-    let n = length-map c.args.amounts.now nat_abs in
-    dealing_start (line_deal c.args.origin) _ _ _ _ (omega arith) c.requires.small c.requires.room
-
--- the amount of the line at hand
-part_is : (c : goal.After-index-lines-i) → c.unsigned_abs.result ≡ get_or (map nat_abs c.args.amounts.now) c.loop-i.i 0
-part_is c =
-    let xs = c.args.amounts.now in
-    let i = c.loop-i.i in
-    let here : i < length xs = omega arith in
-    let fits : SFits w64 (get_or xs i (pos 0)) = search rules in
-    c.unsigned_abs.ensures.value ∙ (ap nat_abs (to_z-of_z w64 (get_or xs i (pos 0)) fits) ∙ sym (get_or-map nat_abs xs i (pos 0) 0 here))
-
-pub deal_line-place-requires : goal.deal_line-place-requires
-deal_line-place-requires c =
-    let b = (goal.at.deal_line-place-requires c).After-index-lines-i in
-    record {
-      small = dealing_small _ _ _ _ _ _ _ _ c.loop-i.invariant _ _ c.loop-i-test.true (part_is b) c.index-lines-i.is;
-      room = dealing_room _ _ _ _ _ _ _ _ c.loop-i.invariant _ _ c.loop-i-test.true (part_is b) c.index-lines-i.is;
-    }
-
-pub loop-i-preserved : goal.loop-i-preserved
-loop-i-preserved c =
-    let b = (goal.at.loop-i-preserved c).After-index-lines-i in
-    rw (c.deal_line-place.ensures.memory, c.deal_line-place.ensures.place)
-    (dealing_next _ _ _ _ _ _ _ _ c.loop-i.invariant _ _ c.loop-i-test.true (part_is b) c.index-lines-i.is)
+pub loop-line-preserved : goal.loop-line-preserved
+loop-line-preserved c =
+    let left = c.in-Some.ensures.steps in
+    let same : c.amount_of.result.cents ≡ nat_abs c.in-Some.amount.now = search rules in
+    let said = c.deal_line-count.ensures in
+    dealing_next c.amount_of.result.cents c.loop-line.invariant left.0 (ap (map nat_abs) left.1 ∙ ap (λ t. t ∷ map nat_abs (iter_rest (zip_second c.next.new.self))) (sym same)) c.deal_line-count.result c.deal_line-count.new.out said.count said.memory
 
 pub returns : goal.returns
 returns c =
-    let end = dealing_end _ _ _ _ _ _ _ _ c.loop-i.invariant (omega arith) in
-    record { memory = end.0; place = end.1 }
+    let none = either_empty_from_Zip c.loop-line.line-iterator c.next.new.self c.next.result c.in-None.is c.next.ensures.steps in
+    let end = dealing_end _ _ c.loop-line.invariant (elim none [ inl e ↦ inl e | inr e ↦ inr (ap (map nat_abs) e) ]) in
+    record { memory = end.0; count = end.1 }

@@ -1,14 +1,15 @@
-use Rattle.std.proofs.Common.{◌≡◌, ℕ, ◌≤◌, List, map, length, take, pos, ap, ◌∙◌, arith}
-use Rattle.std.proofs.lemmas.List.{length-map}
+use Rattle.std.proofs.Common.{◌≡◌, ◌-◌, List, map, length, take, drop, pos, ap, ◌∙◌, arith}
+use Rattle.std.proofs.lemmas.List.{length-map, take_at}
 use Rattle.hourbook.specs.declared.settlement.line_row.LineRow.{LineRow}
-use Rattle.sharing.specs.Shares.{total, shares}
+use Rattle.sharing.specs.Shares.{shares}
 use Rattle.sharing.specs.Writes.{written, cells}
 use Rattle.hourbook.specs.Worths.{weights, weight}
 use Rattle.hourbook.specs.LineRows.{line_rows_from}
-use Rattle.sharing.proofs.Cells.{cells_plain, accepted_memory}
+use Rattle.sharing.proofs.Cells.{cells_plain}
 use Rattle.sharing.proofs.Lawful.{length-shares}
 use Rattle.hourbook.proofs.LineRowed.{length_rows, rows_weigh}
-use Rattle.hourbook.proofs.Parts.{front, both}
+use Rattle.hourbook.proofs.Rest.{written_rest}
+use Rattle.hourbook.proofs.Parts.{both}
 use Rattle.hourbook.proofs.settlement.settle.fill_work.Given as given
 use Rattle.hourbook.proofs.settlement.settle.fill_work.Goals as goal
 use Rattle.hourbook.proofs.settlement.settle.fill_work.Goals.{After-write_weights}
@@ -19,7 +20,16 @@ rows_are g c =
     let m = g.R.Region.meaning c.args.region.now in
     let n = length-map m.lines weight in
     let r = length_rows 1 (weights m) in
-    ap (take c.line_count-lines.result) c.write_weights.ensures.rows ∙ front _ (line_rows_from 1 (weights m)) c.line_count-lines.result (omega arith)
+    ap (take c.line_count-lines.result) c.write_weights.ensures.rows ∙ take_at (line_rows_from 1 (weights m)) _ c.line_count-lines.result (omega arith)
+
+-- and they weigh what the lines do
+weights_are : (g : given.Over) (c : goal.After-write_weights g) → map (λ (r : LineRow). r.weight) (take c.line_count-lines.result c.write_weights.new.rows) ≡ weights (g.R.Region.meaning c.args.region.now)
+weights_are g c = ap (map (λ (r : LineRow). r.weight)) (rows_are g c) ∙ rows_weigh 1 (weights (g.R.Region.meaning c.args.region.now))
+
+pub share_amount-requires-clause-light : goal.share_amount-requires-clause-light
+share_amount-requires-clause-light g c =
+    let b = (goal.at.share_amount-requires-clause-light g c).After-write_weights in
+    rw (weights_are g b) c.requires.light
 
 pub returns : goal.returns
 returns g c =
@@ -29,15 +39,12 @@ returns g c =
     let b = (goal.at.returns g c).After-write_weights in
     let at = c.line_count-lines.result in
     let front : List LineRow = take at c.write_weights.new.rows in
-    let weigh : LineRow → ℕ = λ r. r.weight in
-    let rows : map weigh front ≡ ws = ap (map weigh) (rows_are g b) ∙ rows_weigh 1 ws in
-    let plain : cells (λ _ s. pos s) front (shares c.args.amount (map weigh front)) ≡ map pos (shares c.args.amount ws) =
-    cells_plain front _ (omega (arith, length-shares c.args.amount (map weigh front), length-map front weigh))
-    ∙ ap (λ l. map pos (shares c.args.amount l)) rows in
+    let ss = shares c.args.amount.cents ws in
     let r = length_rows 1 ws in
-    let weigh_light : total (map weigh front) ≤ 4000000000 = rw rows c.requires.light in
     let long : length front ≡ at = ap length (rows_are g b) ∙ omega arith in
-    accepted_memory weigh (λ _ s. pos s) c.args.amount front c.write_weights.new.work _ at c.share.result c.share.ensures.answer c.share.ensures.memory c.requires.small weigh_light (omega arith) (omega arith)
-    ∙ (ap (written c.write_weights.new.work at) plain
-    ∙ (ap (λ w. written w at (map pos (shares c.args.amount ws))) c.write_weights.ensures.work
-    ∙ both c.args.work.now ws (shares c.args.amount ws) at (omega arith) (omega arith)))
+    let plain : cells (λ _ s. pos s) front ss ≡ map pos ss = cells_plain front ss (omega (arith, length-shares c.args.amount.cents ws)) in
+    let rest = take (length c.write_weights.new.work - at) (drop at c.write_weights.new.work) in
+    let shared = rw (weights_are g b) at c.share_amount.ensures in
+    written_rest c.write_weights.new.work at (map pos ss) c.share_amount.new.out (omega arith) (shared ∙ ap (written rest 0) plain)
+    ∙ (ap (λ w. written w at (map pos ss)) c.write_weights.ensures.work
+    ∙ both c.args.work.now ws ss at (omega arith) (omega arith))

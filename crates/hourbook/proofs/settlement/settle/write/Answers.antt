@@ -6,7 +6,8 @@ use Rattle.sharing.specs.Writes.{written}
 use Rattle.sharing.proofs.Lawful.{adds, length-shares}
 use Rattle.hourbook.specs.Worths.{weights, weight, income_of}
 use Rattle.hourbook.specs.Settled.{credit, work_of, paid}
-use Rattle.hourbook.proofs.Parts.{second, abs_all, credit_small}
+use Rattle.hourbook.proofs.Rest.{rest_room, written_rest}
+use Rattle.hourbook.proofs.Parts.{second, abs_all, credit_max, credit_small}
 use Rattle.hourbook.proofs.settlement.settle.write.Given as given
 use Rattle.hourbook.proofs.settlement.settle.write.Goals as goal
 use Rattle.hourbook.proofs.settlement.settle.write.Goals.{After-fill_work}
@@ -24,7 +25,12 @@ module _ (g : given.Over) (c : goal.After-fill_work g) where
   work_is : c.fill_work.new.work ≡ written c.args.work.now 0 (work_of (g.R.Region.meaning c.args.region.now))
   work_is =
       let ws = weights (g.R.Region.meaning c.args.region.now) in
-      let same : c.credit_of.result ≡ credit (income_of (g.R.Region.meaning c.args.region.now)) = c.credit_of.ensures ∙ ap credit sum_is in
+      let z = to_z w64 (of_z w64 c.args.sum) in
+      let low : nat_abs z ≤ 2000000000 = rw fitted c.requires.accepted.small in
+      let top : nat_abs c.max.result ≡ credit z = credit_max z c.max.result c.max.ensures.value in
+      let fits : SFits w64 c.max.result = omega (arith, ints, credit_small z) in
+      let same : c.amount_of.result.cents ≡ credit (income_of (g.R.Region.meaning c.args.region.now)) =
+      c.amount_of.ensures ∙ (ap nat_abs (to_z-of_z w64 c.max.result fits) ∙ (top ∙ ap credit sum_is)) in
       c.fill_work.ensures ∙ ap (λ t. written c.args.work.now 0 (map pos (ws ++ shares t ws))) same
 
   -- the second half of work memory holds the lines' shares
@@ -41,11 +47,7 @@ module _ (g : given.Over) (c : goal.After-fill_work g) where
 pub fill_work-requires : goal.fill_work-requires
 fill_work-requires g c =
     let acc = c.requires.accepted in
-    let fits : SFits w64 c.args.sum = omega (arith, ints, acc.small) in
-    let same : c.credit_of.result ≡ credit c.args.sum = c.credit_of.ensures ∙ ap credit (to_z-of_z w64 _ fits) in
     record {
-      small = omega (arith, credit_small c.args.sum, acc.small);
-      some = omega (arith, acc.lines, c.args.table.now.some);
       light = acc.light;
       room = acc.room;
     }
@@ -68,7 +70,7 @@ pay-requires g c =
       small = rw (sum_is g b) low;
       parts = rw (abs_all ss) (omega (arith, credit_small (income_of m)));
       long = omega (arith, acc.lines, c.args.table.now.lines.ok.0);
-      room = rw (fitted g b) c.requires.room;
+      room = rw (fitted g b) (rest_room c.args.out.now c.args.at _ c.requires.room);
     })
 
 pub returns : goal.returns
@@ -83,7 +85,7 @@ returns g c =
     record {
       work = work_is g b;
       out =
-          c.pay.ensures
+          written_rest c.args.out.now c.args.at _ c.pay.new.out (omega (arith, c.requires.room)) c.pay.ensures
           ∙ (ap (λ ss. written c.args.out.now c.args.at (paid origin (to_z w64 (of_z w64 c.args.sum)) ss lines owners)) parts
           ∙ ap (λ z. written c.args.out.now c.args.at (paid origin z (shares t (weights m)) lines owners)) (sum_is g b));
     }
