@@ -61,7 +61,7 @@ fn whole(bytes: &[u8]) -> Result<(), FileFault>
 {
     let mut records = Records::of(bytes);
     let mut read = 0;
-    // Not `by_ref().count()`, whose contract says nothing of what it leaves unread.
+    // Not `by_ref().count()`, whose contract says nothing of what it leaves unread: the proof does not close.
     while let Some(_) = records.next() {
         read += 1;
     }
@@ -146,10 +146,7 @@ mod tests {
     use std::test::Fail;
 
     fn fault(bytes: &[u8]) -> Option<FileFault> {
-        match judge(bytes) {
-            Ok(_) => None,
-            Err(fault) => Some(fault),
-        }
+        judge(bytes).err()
     }
 
     // A flow-based file: its zones at one price, then the rest.

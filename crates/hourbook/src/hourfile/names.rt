@@ -10,14 +10,14 @@ use crate::hourfile::fault::FileFault;
 use crate::hourfile::method::Method;
 use crate::hourfile::record::{BorderRecord, FactorRecord, LegRecord, LossRecord, Record};
 use crate::hourfile::rule::Rule;
+use arrayvec::ArrayVec;
 
-// What the records so far have said: the line of each of at most 64 legs, by leg and zone which factors have come,
-// and by line which losses. The tables stand in the struct, since judging allocates nothing.
+// What the records so far have said: the line of each leg, by leg and zone which factors have come, and by line which
+// losses. The tables stand in the struct, since judging allocates nothing.
 #[derive(Drop)]
 pub(crate) struct Names {
     census: Census,
-    legs: u8,
-    lines: [u8; 64],
+    lines: ArrayVec<u8, 64>,
     factors: [[bool; 16]; 64],
     losses: [bool; 64],
 }
@@ -35,8 +35,7 @@ impl Names {
     {
         Names {
             census,
-            legs: 0,
-            lines: [0; 64],
+            lines: ArrayVec::new(),
             factors: [[false; 16]; 64],
             losses: [false; 64],
         }
@@ -57,11 +56,12 @@ impl Names {
         ensures yes { OnTrue result (self.new ≡ leg_noted self.old leg.now) }
         ensures no { OnFalse result (self.new ≡ self.old) }
     {
-        if self.legs >= self.census.legs || !is_numbered(leg.line, self.census.lines()) {
+        if self.lines.len() >= usize::from(self.census.legs)
+            || !is_numbered(leg.line, self.census.lines())
+        {
             return false;
         }
-        self.lines[usize::from(self.legs)] = leg.line;
-        self.legs += 1;
+        self.lines.push(leg.line);
         true
     }
 
@@ -80,7 +80,11 @@ impl Names {
         }
         let leg = usize::from(factor.leg) - 1;
         let zone = usize::from(factor.zone) - 1;
-        if self.lines[leg] > census.borders || self.factors[leg][zone] {
+        let external = self
+            .lines
+            .get(leg)
+            .is_some_and(|line| *line > census.borders);
+        if external || self.factors[leg][zone] {
             return false;
         }
         self.factors[leg][zone] = true;
