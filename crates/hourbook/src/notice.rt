@@ -1,4 +1,7 @@
 //! The office's notice of a refusal.
+ghost use Rattle.std.specs.Prelude.{Some};
+ghost use Rattle.hourbook.specs.Notices.{refusal_line};
+
 use std::fmt;
 
 // In the office's numbers: the refusal, the layer that refuses, from the file as 1 to the book as 4, and where the file
@@ -11,6 +14,8 @@ pub(crate) struct Notice {
 }
 
 impl fmt::Display for Notice {
+    ghost output = { λ n. Some (refusal_line n) };
+
     fn fmt<W: fmt::Write>(&self, f: &mut fmt::Formatter<W>) -> fmt::Result {
         write!(f, "R {} {}", self.number, self.place)
     }
