@@ -8,14 +8,9 @@ use Rattle.std.proofs.lemmas.Iterator.{YieldsList}
 use Rattle.std.proofs.lemmas.Iterator.Consumers.{YieldsList-so_far, YieldsList-end}
 use Rattle.std.proofs.lemmas.List.{map-id, length-take}
 use Rattle.std.proofs.lemmas.List.Elements.{All-head, All-tail, All-take}
-use Rattle.std.proofs.lemmas.List.Recursion.{is_sum_by}
 use Rattle.std.proofs.lemmas.Nat.{mul-le}
 use Rattle.std.proofs.Math.Nat.{suc-mul}
-use Rattle.sharing.specs.Shares.{total}
 use Rattle.hourbook.specs.SignedSums.{sum_z}
-
-pub sum_is_total : (ns : List ℕ) → sum ns ≡ total ns
-sum_is_total ns = sym (is_sum_by total (λ n. n) refl (λ _ _. refl) ns)
 
 -- numbers of at most m either way add to at most m for each
 pub added_bound : (m : ℕ) (a : ℤ) (zs : List ℤ) → All (λ z. nat_abs z ≤ m) zs → nat_abs (fold ◌+ℤ◌ a zs) ≤ nat_abs a + length zs * m

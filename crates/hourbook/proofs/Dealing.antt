@@ -1,10 +1,11 @@
 -- A loop that deals amount after amount into memory: what stands at a turn, one turn, and the end. Assumes nothing.
-use Rattle.std.proofs.Common.{◌≡◌, ℕ, ◌+◌, ◌≤◌, ◌-◌, ◌<◌, ◌⊎◌, List, [], ◌∷◌, ◌++◌, length, take, drop, vec_items, sym, refl, inl, inr, ap, ◌∙◌, arith}
+use Rattle.std.proofs.Common.{sum, ◌≡◌, ℕ, ◌+◌, ◌≤◌, ◌-◌, ◌<◌, ◌⊎◌, List, [], ◌∷◌, ◌++◌, length, take, drop, vec_items, sym, refl, inl, inr, ap, ◌∙◌, arith}
 use Rattle.std.proofs.lemmas.List.{length-append, length-map}
 use borrow.Rule.Slice.PartMut.{put_mid}
-use Rattle.sharing.specs.Shares.{total, shares}
+use Rattle.sharing.specs.Shares.{shares}
 use Rattle.sharing.specs.Writes.{written}
 use Rattle.sharing.specs.Levels.{dealt}
+use Rattle.sharing.proofs.Totals.{sum-cons}
 use Rattle.sharing.proofs.Lawful.{length-shares}
 use Rattle.sharing.proofs.Through.{dealt_none, length-dealt}
 use Rattle.sharing.proofs.Cells.{length-cells}
@@ -24,12 +25,12 @@ use Rattle.hourbook.specs.OwnerRows.{leg_rows, line_rows, rows_of}
 -- what was `before`.
 pub record Dealing {X Y : Type 0} (deal : ℕ → X → List Y) (ts : List ℕ) (xs : List X) (before all : List Y) (count : ℕ) (out : List Y) : Type 0 where
   pub long : length xs ≤ length ts
-  pub small : total ts ≤ 2000000000
+  pub small : sum ts ≤ 2000000000
   pub reach : count + length (dealt deal ts xs) ≡ length all
   pub room : length all ≤ length out
   pub memory : written out count (dealt deal ts xs) ≡ written before 0 all
 
-pub dealing_start : {X Y : Type 0} (deal : ℕ → X → List Y) (ts : List ℕ) (xs : List X) (before : List Y) → length xs ≤ length ts → total ts ≤ 2000000000 → length (dealt deal ts xs) ≤ length before
+pub dealing_start : {X Y : Type 0} (deal : ℕ → X → List Y) (ts : List ℕ) (xs : List X) (before : List Y) → length xs ≤ length ts → sum ts ≤ 2000000000 → length (dealt deal ts xs) ≤ length before
     → Dealing deal ts xs before (dealt deal ts xs) 0 before
 dealing_start deal ts xs before long small room = record { long = long; small = small; reach = omega arith; room = room; memory = refl }
 
@@ -45,7 +46,7 @@ module _ {X Y : Type 0} {deal : ℕ → X → List Y} {before all : List Y} {x :
   room = omega (arith, longs, s.reach, s.room)
 
   pub dealing_small : t ≤ 2000000000
-  dealing_small = omega (arith, ap total second, s.small)
+  dealing_small = omega (arith, ap sum second, sum-cons t ts_left, s.small)
 
   pub dealing_room : length (deal t x) ≤ length (take (length out - count) (drop count out))
   dealing_room = rest_room out count (length (deal t x)) room
@@ -56,7 +57,7 @@ module _ {X Y : Type 0} {deal : ℕ → X → List Y} {before all : List Y} {x :
       let here : put_mid count (length out - count) out after ≡ written out count (deal t x) = written_rest out count (deal t x) after (omega (arith, room)) memory in
       rw (counted, here) (record {
         long = omega (arith, s.long, ap length first, ap length second);
-        small = omega (arith, s.small, ap total second);
+        small = omega (arith, s.small, ap sum second, sum-cons t ts_left);
         reach = omega (arith, longs, s.reach);
         room = omega (arith, s.room, length-written out count (deal t x) room);
         memory = written-append out count (deal t x) (dealt deal ts_left xs_left) room ∙ (ap (written out count) (sym step) ∙ s.memory);
@@ -71,7 +72,7 @@ dealing_end {deal = deal} ts [] {count = count} {out = out} s e = (
 dealing_end [] (x ∷ xs) s e = absurd (omega (arith, s.long))
 dealing_end (t ∷ ts) (x ∷ xs) s e = absurd (elim e [ inl f ↦ cc | inr f ↦ cc ])
 
-pub some_rows : (ws : List ℕ) → 0 < total ws → 0 < length ws
+pub some_rows : (ws : List ℕ) → 0 < sum ws → 0 < length ws
 some_rows [] h = omega arith
 some_rows (w ∷ ws) h = omega arith
 

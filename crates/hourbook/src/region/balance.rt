@@ -1,6 +1,5 @@
 //! Whether the tables of the coordinated method are sound.
-ghost use Rattle.std.specs.Prelude.{◌≡◌, ◌≤◌, map, Decides, unsigned_abs};
-ghost use Rattle.sharing.specs.Shares.{total};
+ghost use Rattle.std.specs.Prelude.{sum, ◌≡◌, ◌≤◌, map, Decides, unsigned_abs};
 ghost use Rattle.hourbook.specs.SignedSums.{sum_z};
 ghost use Rattle.hourbook.specs.Tables.{tenths_of};
 ghost use Rattle.hourbook.specs.Balance.{only, at_zone, net_capacity, Balanced, Judged};
@@ -56,7 +55,7 @@ impl Network {
     }
 
     fn position_size(&self) -> u64
-        ensures { result ≡ total (map unsigned_abs (tenths_of self.now.positions.items)) }
+        ensures { result ≡ sum (map unsigned_abs (tenths_of self.now.positions.items)) }
     {
         self.positions()
             .iter()

@@ -1,6 +1,5 @@
 //! The weights of a region's lines.
-ghost use Rattle.std.specs.Prelude.{◌≡◌, ◌≤◌, map, length, pos};
-ghost use Rattle.sharing.specs.Shares.{total};
+ghost use Rattle.std.specs.Prelude.{sum, ◌≡◌, ◌≤◌, map, length, pos};
 ghost use Rattle.sharing.specs.Writes.{written};
 ghost use Rattle.hourbook.specs.Meaning.{LineBounded};
 ghost use Rattle.hourbook.specs.Worths.{weight, weights};
@@ -24,7 +23,7 @@ impl Line {
 
 // What all lines weigh.
 pub(crate) fn weigh_all<R: Region>(region: &R) -> u64
-    ensures { result ≡ total (weights (R.meaning region.now)) }
+    ensures { result ≡ sum (weights (R.meaning region.now)) }
 {
     region.lines().map(|line| line.weight()).sum()
 }

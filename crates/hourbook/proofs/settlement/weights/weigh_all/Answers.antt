@@ -4,7 +4,6 @@ use Rattle.std.proofs.lemmas.Iterator.Adapters.{serves_from_places, fits_from_le
 use Rattle.std.proofs.lemmas.Iterator.Consumers.{YieldsList-at, YieldsList-from_first, sum_from_yields_List}
 use Rattle.hourbook.specs.Meaning.{LineBounded}
 use Rattle.hourbook.specs.Worths.{weight}
-use Rattle.hourbook.proofs.Adding.{sum_is_total}
 use Rattle.hourbook.proofs.settlement.weights.weigh_all.Goals as goal
 
 pub sum-requires-clause-can : goal.sum-requires-clause-can
@@ -25,4 +24,4 @@ pub returns : goal.returns
 returns g c =
     let lines = (g.R.Region.meaning c.args.region.now).lines in
     let road = YieldsList-at c.map.ensures.source (YieldsList-from_first (λ x. x) (λ s. drop s.next (g.R.Region.meaning s.region.now).lines) lines c.lines.ensures) in
-    sum_from_yields_List c.map.result _ c.sum.ensures.ran (YieldsList-from_map _ weight road c.map.ensures.closure (λ x r q k. search rules)) ∙ sum_is_total _
+    sum_from_yields_List c.map.result _ c.sum.ensures.ran (YieldsList-from_map _ weight road c.map.ensures.closure (λ x r q k. search rules))

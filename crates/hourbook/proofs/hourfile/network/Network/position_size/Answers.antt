@@ -1,9 +1,7 @@
-use Rattle.std.proofs.Common.{sym, ap, ◌∙◌, rules, unsigned_abs}
+use Rattle.std.proofs.Common.{sum, sym, ap, ◌∙◌, rules, unsigned_abs}
 use Rattle.std.proofs.lemmas.Iterator.{YieldsList-from_slice, YieldsList-from_map}
 use Rattle.std.proofs.lemmas.Iterator.Consumers.{YieldsList-at, sum_from_yields_List}
 use Rattle.std.proofs.lemmas.Simd.{map-map}
-use Rattle.sharing.specs.Shares.{total}
-use Rattle.hourbook.proofs.Adding.{sum_is_total}
 use Rattle.hourbook.proofs.hourfile.network.Network.position_size.Goals as goal
 
 pub returns : goal.returns
@@ -11,4 +9,4 @@ returns c =
     let positions = c.args.self.now.positions.items in
     let road = YieldsList-at c.map.ensures.source (YieldsList-from_slice positions cc) in
     sum_from_yields_List c.map.result c.sum.result c.sum.ensures.ran (YieldsList-from_map _ (λ p. unsigned_abs p.value) road c.map.ensures.closure (λ x r q k. search rules))
-    ∙ (sum_is_total _ ∙ ap total (sym (map-map unsigned_abs (λ p. p.value) positions)))
+    ∙ ap sum (sym (map-map unsigned_abs (λ p. p.value) positions))
