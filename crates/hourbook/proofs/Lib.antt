@@ -7,7 +7,6 @@ pub mod Parts
 pub mod Sinking
 pub mod Owns
 pub mod Stands
-pub mod Kept
 pub mod Collect
 pub mod Passing
 pub mod Sequences

@@ -1,14 +1,12 @@
 -- Sums by number, one record more. Assumes nothing.
-use Rattle.std.proofs.Common.{◌≡◌, ℕ, ◌+◌, ◌-◌, ◌<◌, ◌≤◌, min, cond, eqb, ◌⊎◌, List, [], ◌∷◌, ◌++◌, length, get_or, replicate, sum_by, sym, refl, ap, ◌∙◌, subst, inl, inr, ⊎_elim, arith, length-set, get_or-set_other, get_or-set_same}
+use Rattle.std.proofs.Common.{◌≡◌, ℕ, ◌+◌, ◌-◌, min, cond, eqb, ◌⊎◌, List, [], ◌∷◌, ◌++◌, length, get_or, replicate, sum_by, sym, refl, ap, ◌∙◌, subst, inl, inr, ⊎_elim, arith, length-set, get_or-set_other, get_or-set_same}
 use lib.ListN.{get_or-replicate}
 use Rattle.std.proofs.lemmas.Bool.{cases_eq, cases_lt, cond-true, cond-false, eq-eqb, ne_eqb}
 use Rattle.std.proofs.lemmas.List.Sums.{sum_by_push}
 use Rattle.hourbook.specs.declared.hourfile.«record».Record.{Record}
 use Rattle.hourbook.specs.Encoding.{encoded}
-use Rattle.hourbook.specs.Format.{Whole}
 use Rattle.hourbook.specs.Passes.{Reads}
 use Rattle.hourbook.proofs.Passing.{reads_next}
-use Rattle.hourbook.specs.Wholeness.{SumsOf}
 use Rattle.hourbook.specs.Numbering.{Numbered}
 use Rattle.hourbook.specs.Sums.{plus}
 
@@ -74,9 +72,6 @@ module _ (f : ℕ → Record → ℕ) (bytes rest sums : List ℕ) where
   sums_start e zero = record { records = []; reads = e; summed = subst (Summed f []) (sym zero) (summed_none f) }
 
   module _ (so : SumsSoFar f bytes rest sums) where
-    pub sums_end : (Whole rest → ⊥) → SumsOf f bytes sums
-    sums_end none = record { records = so.records; rest = rest; reads = so.reads; ends = none; keeps = so.summed.each }
-
     module _ (left : List ℕ) (x : Record) (split : rest ≡ encoded x ++ left) where
       sums_more : (after : List ℕ) → Summed f (so.records ++ (x ∷ [])) after → SumsSoFar f bytes left after
       sums_more after summed = record { records = so.records ++ (x ∷ []); reads = reads_next bytes so.records rest left x so.reads split; summed = summed }
@@ -86,10 +81,3 @@ module _ (f : ℕ → Record → ℕ) (bytes rest sums : List ℕ) where
 
       pub sums_next : (after : List ℕ) (i v : ℕ) → ((n : ℕ) → f n x ≡ cond (eqb i n) v 0) → (Numbered 64 i → after ≡ plus sums i v) → ((Numbered 64 i → ⊥) → after ≡ sums) → SumsSoFar f bytes left after
       sums_next after i v gives adds same = sums_more after (summed_next f so.records x sums after so.summed i v gives adds same)
-
-pub some_sum : (s a : ℕ) → a ≡ min s 65535 → (a ≡ 0 → ⊥) → 0 < s
-some_sum s a e ne = ⊎_elim (λ more. more) (λ none. absurd (ne (omega (arith, e, none)))) (cases_lt 0 s)
-
--- to the last number, from those before it and itself
-pub to_last : (P : ℕ → Type 0) (l n : ℕ) → ((m : ℕ) → 1 ≤ m → m < l → P m) → P l → 1 ≤ n → n ≤ l → P n
-to_last P l n before here some low = ⊎_elim (λ lt. before n some lt) (λ ge. subst P (omega (arith, ge, low)) here) (cases_lt n l)

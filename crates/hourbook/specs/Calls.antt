@@ -38,6 +38,6 @@ statement_judged used es owner room =
 abbrev pub settle_judged : Result ℤ SettlementFault → Ownership → ℕ → ℕ → ℕ → Result ℤ BookFault
 settle_judged judged table used places mask = and_then Settlement judged (λ income.
     cond (nat_lt places used) (Err Entries)
-    (cond (settled_in mask table.region) (Err Settled)
+    (cond (settled_in mask table.region.number) (Err Settled)
     (cond (nat_lt (min places 1000000) (used + needed income table)) (Err Full)
     (Ok income))))

@@ -32,7 +32,7 @@ failure_of f = Refused (Settlement (Region (File f)))
 
 -- the hour and the region of the credits
 abbrev pub hour_origin : ℕ → Ownership → Origin
-hour_origin hour table = record { hour = hour; region = table.region }
+hour_origin hour table = record { hour = hour; region = table.region.number }
 
 -- the credits of the region stand at the front of memory, and all of them count
 pub record Posted (m : Meaning) (table : Ownership) (hour used : ℕ) (before after : List Row) : Type 0 where

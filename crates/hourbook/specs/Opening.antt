@@ -18,11 +18,11 @@ pub record Admits (m : Meaning) (table : Ownership) (used size places : ℕ) (in
 
 -- the credits are of the hour that is open and the region of the table
 abbrev pub origin_of : OpenBook → Ownership → Origin
-origin_of book table = record { hour = book.hour; region = table.region }
+origin_of book table = record { hour = book.hour; region = table.region.number }
 
 -- the book after an accepted settling
 pub record Advanced (before after : OpenBook) (table : Ownership) (income : ℤ) : Type 0 where
   pub rest : after.rest ≡ before.rest
   pub hour : after.hour ≡ before.hour
   pub used : after.used ≡ before.used + needed income table
-  pub settled : (k : ℕ) → 1 ≤ k → k ≤ 32 → settled_in after.settled k ≡ (k == table.region || settled_in before.settled k)
+  pub settled : (k : ℕ) → 1 ≤ k → k ≤ 32 → settled_in after.settled k ≡ (k == table.region.number || settled_in before.settled k)

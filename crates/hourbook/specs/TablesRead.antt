@@ -19,7 +19,7 @@ pub record Tabled (c : Census) (s : Sorted) (f : HourFile) : Type 0 where
   pub borders : map border_said (vec_items f.network.borders) ≡ s.borders
   pub prices : cents_of (vec_items f.prices.list) ≡ s.prices
   pub losses : vec_items f.losses.losses ≡ s.losses
-  pub region : f.ownership.region ≡ c.region
+  pub region : f.ownership.region.number ≡ c.region
   pub lines : map line_said (vec_items f.ownership.lines) ≡ lines_told (census_lines c) s.legs s.owners
 
 -- the file says what the records say whose encodings the bytes are

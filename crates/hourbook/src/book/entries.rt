@@ -6,7 +6,7 @@ use crate::book::fault::BookFault;
 use crate::entry::row::Row;
 
 // The first `used` places of memory, where it has so many.
-pub(crate) fn entries(memory: &[Row], used: u32) -> Result<&[Row], BookFault>
+pub(crate) fn used_entries(memory: &[Row], used: u32) -> Result<&[Row], BookFault>
     ensures { MatchResult result
         (λ es. (used ≤ length memory.now) × (es.now ≡ take used memory.now))
         (λ fault. (length memory.now < used) × (fault ≡ Entries)) }

@@ -3,7 +3,7 @@ ghost use Rattle.std.specs.Prelude.{◌≡◌};
 ghost use Rattle.hourbook.specs.Calls.{open_judged};
 ghost use Rattle.hourbook.specs.Moves.{Moved};
 
-use crate::book::entries::entries;
+use crate::book::entries::used_entries;
 use crate::book::fault::BookFault;
 use crate::book::settled::SettledRegions;
 use crate::book::standing::stands;
@@ -22,7 +22,7 @@ impl RestingBook {
     fn judge_open(&self, memory: &[Row], hour: u32) -> Result<(), BookFault>
         ensures { result ≡ open_judged self.now.used memory.now hour }
     {
-        let entries = entries(memory, self.used)?;
+        let entries = used_entries(memory, self.used)?;
         if hour == 0 || stands(entries, hour) {
             return Err(BookFault::Hour);
         }

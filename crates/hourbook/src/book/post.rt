@@ -3,7 +3,7 @@ ghost use Rattle.std.specs.Prelude.{◌≡◌};
 ghost use Rattle.hourbook.specs.Calls.{post_judged};
 ghost use Rattle.hourbook.specs.Moves.{Moved};
 
-use crate::book::entries::entries;
+use crate::book::entries::used_entries;
 use crate::book::fault::BookFault;
 use crate::book::{OpenBook, Refusal, RestingBook};
 use crate::entry::row::Row;
@@ -13,7 +13,7 @@ impl OpenBook {
     fn judge_post(&self, memory: &[Row]) -> Result<(), BookFault>
         ensures { result ≡ post_judged self.now.used memory.now self.now.settled }
     {
-        let _ = entries(memory, self.used)?;
+        used_entries(memory, self.used)?;
         if self.settled.is_empty() {
             return Err(BookFault::Nothing);
         }

@@ -6,7 +6,7 @@ ghost use Rattle.hourbook.specs.Settled.{judged, credits_of, needed, work_of};
 ghost use Rattle.sharing.specs.Writes.{written};
 
 use crate::book::OpenBook;
-use crate::book::entries::entries;
+use crate::book::entries::used_entries;
 use crate::book::fault::BookFault;
 use crate::entry::credit::Origin;
 use crate::entry::row::Row;
@@ -29,7 +29,7 @@ impl OpenBook {
         ensures facts { IfOk result (Admits (R.meaning region.now) table.now self.now.used room (length memory.now)) }
     {
         let income = judge(region, table, room)?;
-        let used = entries(memory, self.used)?.len();
+        let used = used_entries(memory, self.used)?.len();
         if self.settled.contains(table.region) {
             return Err(BookFault::Settled);
         }
@@ -57,7 +57,7 @@ impl OpenBook {
         let income = self.judge_settle(region, table, work.len(), memory)?;
         let origin = Origin {
             hour: self.hour,
-            region: table.region,
+            region: table.region.get(),
         };
         write(
             region,

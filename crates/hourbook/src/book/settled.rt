@@ -2,9 +2,10 @@
 ghost use Rattle.std.specs.Prelude.{◌≡◌, ℕ, ◌≤◌, ◌||◌, ◌==◌};
 ghost use Rattle.hourbook.specs.SettledIn.{settled_in};
 
+use crate::hourfile::region_number::RegionNumber;
 use std::marker::Model;
 
-// Regions from 1 to 32: bit r − 1 is set for region r. A clause sees the bits.
+// Bit r − 1 is set for region r. A clause sees the bits.
 #[derive(Clone, Copy, Debug, Default, PartialEq, Eq)]
 pub(crate) struct SettledRegions {
     bits: u32,
@@ -25,22 +26,18 @@ impl SettledRegions {
         self.bits == 0
     }
 
-    pub(crate) fn contains(self, region: u8) -> bool
-        requires low { 1 ≤ region }
-        requires high { region ≤ 32 }
-        ensures { result ≡ settled_in self region }
+    pub(crate) fn contains(self, region: RegionNumber) -> bool
+        ensures { result ≡ settled_in self region.number }
     {
-        (self.bits >> (region - 1)) & 1 == 1
+        (self.bits >> (region.get() - 1)) & 1 == 1
     }
 
     // These regions, and one more.
-    pub(crate) fn with(self, region: u8) -> SettledRegions
-        requires low { 1 ≤ region }
-        requires high { region ≤ 32 }
-        ensures { (k : ℕ) → 1 ≤ k → k ≤ 32 → settled_in result k ≡ (k == region || settled_in self k) }
+    pub(crate) fn with(self, region: RegionNumber) -> SettledRegions
+        ensures { (k : ℕ) → 1 ≤ k → k ≤ 32 → settled_in result k ≡ (k == region.number || settled_in self k) }
     {
         SettledRegions {
-            bits: self.bits | (1 << (region - 1)),
+            bits: self.bits | (1 << (region.get() - 1)),
         }
     }
 }

@@ -4,10 +4,13 @@ ghost use Rattle.hourbook.specs.Calls.{statement_judged};
 ghost use Rattle.hourbook.specs.StatementAnswers.{text, over};
 
 use crate::book::RestingBook;
-use crate::book::entries::entries;
+use crate::book::entries::used_entries;
 use crate::book::fault::BookFault;
 use crate::book::statement::Statement;
 use crate::entry::row::Row;
+
+// Owners are numbered from 1.
+const OWNERS: u8 = 64;
 
 impl RestingBook {
     // Writes the statement of an owner into the first bytes of `out`, and answers how many. Later bytes stay.
@@ -22,8 +25,8 @@ impl RestingBook {
         ensures within { IfOk result (λ n. n ≤ length out.new) }
         ensures memory { out.new ≡ (if is_ok result then over (text owner self.now.used memory.now) out.old else out.old) }
     {
-        let entries = entries(memory, self.used)?;
-        if owner < 1 || owner > 64 {
+        let entries = used_entries(memory, self.used)?;
+        if owner < 1 || owner > OWNERS {
             return Err(BookFault::Owner);
         }
         let statement = Statement::of(entries, owner);

@@ -7,6 +7,7 @@ use crate::book::sink::{Count, Page, Sink};
 use crate::book::text::put_line;
 use crate::entry::entry::Entry;
 use crate::entry::row::Row;
+use std::marker::Model;
 
 // What the owner's entries add to.
 fn balance(entries: &[Row], owner: u8) -> i64
@@ -23,20 +24,29 @@ fn balance(entries: &[Row], owner: u8) -> i64
     sum
 }
 
-// The owner's lines among the entries, under the owner and above what they add to.
-#[derive(Clone, Copy)]
+// The owner's lines among the entries, under the owner and above what they add to. A clause sees the text.
+#[derive(Drop)]
 pub(crate) struct Statement<'a> {
     owner: u8,
     entries: &'a [Row],
     balance: i64,
-    ghost adds: { balance ≡ balance_of (own owner entries.now) },
+}
+
+impl<'a> Model for Statement<'a> {
+    ghost use Rattle.std.specs.Prelude.{◌≡◌, ℕ, List};
+    ghost use Rattle.hourbook.specs.Statements.{balance_of, own, statement_of};
+
+    ghost Value = { List ℕ };
+
+    ghost view = { λ s. statement_of s.owner (own s.owner s.entries.now) };
+
+    ghost invariant = { λ s. s.balance ≡ balance_of (own s.owner s.entries.now) };
 }
 
 impl<'a> Statement<'a> {
     pub(crate) fn of(entries: &'a [Row], owner: u8) -> Statement<'a>
         requires { length entries.now ≤ 4294967295 }
-        ensures owner { result.owner ≡ owner }
-        ensures entries { result.entries.now ≡ entries.now }
+        ensures { result ≡ statement_of owner (own owner entries.now) }
     {
         Statement {
             owner,
@@ -45,10 +55,11 @@ impl<'a> Statement<'a> {
         }
     }
 
-    // The text, once for all that take it.
+    // The text, for whatever takes it. An `if` in the loop: over a filter, the check states no invariant here, where the
+    // sink is a type parameter.
     fn put<S: Sink>(&self, sink: &mut S)
-        requires { S.has_room sink.old (length (statement_of self.now.owner (own self.now.owner self.now.entries.now))) }
-        ensures { S.took sink.old (statement_of self.now.owner (own self.now.owner self.now.entries.now)) sink.new }
+        requires { S.has_room sink.old (length self.now) }
+        ensures { S.took sink.old self.now sink.new }
     {
         put_line(sink, b'O', &[i64::from(self.owner)]);
         for row in self.entries {
@@ -62,7 +73,7 @@ impl<'a> Statement<'a> {
 
     // How many bytes the text has.
     pub(crate) fn len(&self) -> usize
-        ensures { result ≡ min (length (statement_of self.now.owner (own self.now.owner self.now.entries.now))) (2 ^ 64 - 1) }
+        ensures { result ≡ min (length self.now) (2 ^ 64 - 1) }
     {
         let mut count = Count::default();
         self.put(&mut count);
@@ -71,8 +82,8 @@ impl<'a> Statement<'a> {
 
     // Writes the text into the first bytes of `out`, and says how many.
     pub(crate) fn write(&self, out: &mut [u8]) -> usize
-        requires { length (statement_of self.now.owner (own self.now.owner self.now.entries.now)) ≤ length out.old }
-        ensures { Wrote out.old out.new 0 result (statement_of self.now.owner (own self.now.owner self.now.entries.now)) }
+        requires { length self.now ≤ length out.old }
+        ensures { Wrote out.old out.new 0 result self.now }
     {
         let mut page = Page::new(out);
         self.put(&mut page);

@@ -11,9 +11,9 @@ pub(crate) enum EntryKind {
 }
 
 impl EntryKind {
-    // The letter in a statement.
-    pub(crate) fn letter(&self) -> u8
-        ensures { result ≡ letter_of self.now }
+    // The letter in a statement. It keeps its name: a `u8` from a kind could as well be its place among the kinds.
+    pub(crate) fn letter(self) -> u8
+        ensures { result ≡ letter_of self }
     {
         match self {
             EntryKind::Credit => b'C',

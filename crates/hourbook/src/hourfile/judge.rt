@@ -16,7 +16,7 @@ ghost use Rattle.hourbook.specs.Passes.{AllRead, Unreads};
 ghost use Rattle.hourbook.specs.Ranging.{OutOfRange, Ranged};
 ghost use Rattle.hourbook.specs.Sequence.{Disordered, WellOrdered};
 ghost use Rattle.hourbook.specs.Tallies.{Furnished, WithinLimits};
-ghost use Rattle.hourbook.specs.Wholeness.{AllContribute, AllOwned, NoneContributes, NotOwned, SumsOf, contribution_to, key_to};
+ghost use Rattle.hourbook.specs.Wholeness.{AllContribute, AllOwned, NoneContributes, NotOwned};
 
 use crate::hourfile::census::Census;
 use crate::hourfile::fault::FileFault;

@@ -7,13 +7,15 @@ pub(crate) struct LossTable {
     losses: Vec<u16>,
 }
 
-impl LossTable {
-    pub(crate) fn new(losses: Vec<u16>) -> LossTable
-        ensures { result.losses.items ≡ losses.items }
-    {
+impl From<Vec<u16>> for LossTable {
+    ghost from_gives = { λ losses table. table.losses.items ≡ losses.items };
+
+    fn from(losses: Vec<u16>) -> LossTable {
         LossTable { losses }
     }
+}
 
+impl LossTable {
     pub(crate) fn at(&self, k: usize) -> u16
         ensures { result ≡ slice_index self.now.losses.items k }
     {

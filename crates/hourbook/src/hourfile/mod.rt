@@ -22,6 +22,7 @@ pub(crate) mod ranges;
 pub(crate) mod read;
 pub(crate) mod record;
 pub(crate) mod records;
+pub(crate) mod region_number;
 pub(crate) mod rule;
 pub(crate) mod sums;
 pub(crate) mod tally;

@@ -5,6 +5,10 @@ use crate::hourfile::border::Border;
 use crate::hourfile::method::Method;
 use crate::hourfile::position::NetPosition;
 
+const MOST_ZONES: usize = 16;
+
+const MOST_BORDERS: usize = 48;
+
 // 1 to 16 zones by their net positions, and at most 48 borders.
 #[derive(Drop)]
 pub(crate) struct Network {
@@ -24,7 +28,7 @@ impl Network {
     ) -> Option<Network>
         ensures { MatchOption result (1 ≤ vec_len positions → vec_len positions ≤ 16 → vec_len borders ≤ 48 → ⊥) (λ n. (n.method ≡ method) × (n.positions.items ≡ positions.items) × (n.borders.items ≡ borders.items)) }
     {
-        if positions.is_empty() || positions.len() > 16 || borders.len() > 48 {
+        if positions.is_empty() || positions.len() > MOST_ZONES || borders.len() > MOST_BORDERS {
             return None;
         }
         Some(Network {

@@ -1,6 +1,7 @@
 //! The owners of legs.
 ghost use Rattle.std.specs.Prelude.{◌≡◌};
 
+use crate::hourfile::record::OwnerRecord;
 use sharing::{Receiving, Weighted};
 
 // One owner's key of a leg, in ten-thousandths.
@@ -8,6 +9,19 @@ use sharing::{Receiving, Weighted};
 pub(crate) struct OwnerRow {
     pub(crate) owner: u8,
     pub(crate) key: u16,
+}
+
+impl From<OwnerRecord> for OwnerRow {
+    ghost use Rattle.hourbook.specs.OwnershipRead.{owner_row};
+
+    ghost from_gives = { λ told row. row ≡ owner_row told };
+
+    fn from(record: OwnerRecord) -> OwnerRow {
+        OwnerRow {
+            owner: record.owner,
+            key: record.key,
+        }
+    }
 }
 
 impl Weighted for OwnerRow {

@@ -6,12 +6,11 @@ ghost use Rattle.hourbook.specs.Rising.{owns, owners_of, number_of};
 use crate::hourfile::fault::FileFault;
 use crate::hourfile::owned_line::OwnedLine;
 use crate::hourfile::owner::Owner;
+use crate::hourfile::region_number::RegionNumber;
 use std::alloc::{AllocError, Global};
 
 // Owners are numbered below it.
 const OWNERS: u8 = 65;
-
-const REGIONS: u8 = 32;
 
 const MOST_LINES: usize = 64;
 
@@ -22,11 +21,9 @@ const MOST_ROWS: usize = 128;
 // The region's number, its lines in rising number, and all owners with a row, each once, in rising number.
 #[derive(Drop)]
 pub(crate) struct Ownership {
-    pub(crate) region: u8,
+    pub(crate) region: RegionNumber,
     pub(crate) lines: Vec<OwnedLine>,
     pub(crate) owners: Vec<Owner>,
-    ghost region_named: { 1 ≤ region },
-    ghost region_known: { region ≤ 32 },
     ghost few_rows: { rows_of lines.items ≤ 128 },
     ghost some: { 0 < vec_len lines },
     ghost few: { vec_len lines ≤ 64 },
@@ -67,9 +64,10 @@ impl Ownership {
         region: u8,
         lines: Vec<OwnedLine>,
     ) -> Result<Ownership, FileFault>
-        ensures { IfOk result (λ t. (t.region ≡ region) × (t.lines.items ≡ lines.items)) }
+        ensures { IfOk result (λ t. (t.region.number ≡ region) × (t.lines.items ≡ lines.items)) }
     {
-        if region < 1 || region > REGIONS || lines.is_empty() || lines.len() > MOST_LINES {
+        let region = RegionNumber::try_from(region).map_err(|_| FileFault::Keys { leg: 0 })?;
+        if lines.is_empty() || lines.len() > MOST_LINES {
             return Err(FileFault::Keys { leg: 0 });
         }
         let owners = rising_owners(heap, lines.as_slice())?;

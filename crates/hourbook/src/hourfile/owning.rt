@@ -17,10 +17,8 @@ impl Gathered {
         self.owners
             .iter()
             .filter(|record| record.leg == leg)
-            .map(|record| OwnerRow {
-                owner: record.owner,
-                key: record.key,
-            })
+            .copied()
+            .map(OwnerRow::from)
             .collect(heap)
     }
 

@@ -9,13 +9,15 @@ pub(crate) struct Prices {
     list: Vec<Price>,
 }
 
-impl Prices {
-    pub(crate) fn new(list: Vec<Price>) -> Prices
-        ensures { result.list.items ≡ list.items }
-    {
+impl From<Vec<Price>> for Prices {
+    ghost from_gives = { λ list prices. prices.list.items ≡ list.items };
+
+    fn from(list: Vec<Price>) -> Prices {
         Prices { list }
     }
+}
 
+impl Prices {
     pub(crate) fn list(&self) -> &[Price]
         ensures { result.now ≡ self.now.list.items }
     {

@@ -7,7 +7,8 @@ use crate::hourfile::names::is_numbered;
 
 const MOST: u8 = 64;
 
-// A sum may stop at the largest u16: the rules only tell 0 and 10,000 from other sums.
+// By number, in a table that allocates nothing. A sum may stop at the largest u16: the rules only tell 0 and 10,000 from
+// other sums.
 #[derive(Drop)]
 pub(crate) struct Sums {
     amounts: [u16; 64],

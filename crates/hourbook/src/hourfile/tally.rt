@@ -18,7 +18,8 @@ const MOST_LEGS: u8 = 64;
 
 const MOST_OWNERS: u8 = 128;
 
-// Factors and losses are not counted: no leg takes two for a zone, and no line two losses.
+// Factors and losses are not counted: no leg takes two for a zone, and no line two losses. The limits are no invariant of
+// the type, since the specification also names the tally that passes one.
 #[derive(Clone, Copy, Debug, PartialEq, Eq)]
 pub(crate) struct Tally {
     pub(crate) zones: u8,

@@ -7,8 +7,10 @@ ghost use Rattle.hourbook.specs.Balance.{only, at_zone, net_capacity, Balanced, 
 
 use crate::hourfile::border::Border;
 use crate::hourfile::network::Network;
+use crate::hourfile::position::NetPosition;
 use crate::region::fault::Flaw;
 
+// The magnitudes of sound net positions add to no more.
 const LARGEST: u64 = 1_000_000;
 
 impl Border {
@@ -38,21 +40,19 @@ impl Network {
     fn capacity_out(&self, zone: usize) -> i64
         ensures { result ≡ net_capacity zone self.now.borders.items }
     {
-        let mut sum: i64 = 0;
-        for border in self.borders() {
-            sum += border.capacity_at(zone);
-        }
-        sum
+        self.borders()
+            .iter()
+            .map(|border| border.capacity_at(zone))
+            .sum()
     }
 
     fn position_sum(&self) -> i64
         ensures { result ≡ sum_z (tenths_of self.now.positions.items) }
     {
-        let mut sum: i64 = 0;
-        for position in self.positions() {
-            sum += i64::from(position.get());
-        }
-        sum
+        self.positions()
+            .iter()
+            .map(|position| i64::from(position.get()))
+            .sum()
     }
 
     fn position_size(&self) -> u64
@@ -64,13 +64,23 @@ impl Network {
             .sum()
     }
 
+    // Whether a zone's net position is what the capacities take out of it.
+    fn is_met(&self, zone: usize, position: &NetPosition) -> bool
+        ensures { Decides result (position.now.value ≡ net_capacity zone self.now.borders.items) }
+    {
+        i64::from(position.get()) == self.capacity_out(zone)
+    }
+
     // Whether net positions add to 0, and each is what the capacities take out of its zone.
     fn is_balanced(&self) -> bool
         ensures { Decides result (Balanced (tenths_of self.now.positions.items) self.now.borders.items) }
     {
         self.position_sum() == 0
-            && self.positions().iter().enumerate().all(|(k, position)| i64::from(position.get())
-                == self.capacity_out(k + 1))
+            && self
+                .positions()
+                .iter()
+                .enumerate()
+                .all(|(k, position)| self.is_met(k + 1, position))
     }
 
     // Whether the tables are sound, or what is wrong with them.

@@ -21,9 +21,6 @@ impl Zone {
 pub(crate) fn income<R: Region>(region: &R) -> i64
     ensures { result ≡ income_of (R.meaning region.now) }
 {
-    let mut sum: i64 = 0;
-    for zone in region.zones() {
-        sum += zone.worth();
-    }
+    let sum: i64 = region.zones().map(|zone| zone.worth()).sum();
     (-sum).div_euclid(10)
 }

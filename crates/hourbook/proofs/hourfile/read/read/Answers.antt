@@ -4,7 +4,7 @@ use Rattle.hourbook.specs.TablesRead.{Describes, Tabled}
 use Rattle.hourbook.proofs.hourfile.read.read.Goals as goal
 
 pub returns : goal.returns
-returns c = IfOk-weaker c.tables_of.result (Tabled c.in_ok-census.census (said c.in_ok-gathered.gathered)) (Describes c.args.bytes.now)
+returns c = IfOk-weaker c.new.result (Tabled c.in_ok-census.census (said c.in_ok-gathered.gathered)) (Describes c.args.bytes.now)
     (λ file tabled. record {
       census = c.in_ok-census.census;
       heads = c.in_ok-census.ensures.heads;
@@ -12,4 +12,4 @@ returns c = IfOk-weaker c.tables_of.result (Tabled c.in_ok-census.census (said c
       collected = c.in_ok-gathered.ensures;
       tabled = tabled;
     })
-    c.tables_of.ensures
+    c.new.ensures

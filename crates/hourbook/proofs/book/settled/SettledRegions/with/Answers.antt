@@ -15,4 +15,6 @@ one_more bits r k low high one =
     ]
 
 pub returns : goal.returns
-returns c = λ k low high. rw c.self.view_is (one_more _ c.args.region k c.requires.low c.requires.high low)
+returns c = λ k low high.
+    let r = c.get.ensures in
+    rw (c.self.view_is, ← r.value) (one_more _ c.get.result k r.named r.known low)

@@ -1,7 +1,7 @@
 use Rattle.std.proofs.Common.{◌+◌, ◌≤◌, length}
 use Rattle.hourbook.specs.Collecting.{Collects}
 use Rattle.hourbook.specs.SortedRecords.{said}
-use Rattle.hourbook.proofs.hourfile.gathered.Gathered.of.Given as goal
+use Rattle.hourbook.proofs.hourfile.gathered.Gathered.from_bytes.Given as goal
 
 -- each record takes a byte or more
 abbrev pub invariant-loop-record : goal.invariant-loop-record

@@ -5,7 +5,7 @@ use Rattle.hourbook.specs.Encoding.{encoded}
 use Rattle.hourbook.specs.Naming.{census_lines}
 use Rattle.hourbook.specs.SortedRecords.{said, unsorted}
 use Rattle.hourbook.proofs.Collect.{encoded_some, collects_none, collects_next}
-use Rattle.hourbook.proofs.hourfile.gathered.Gathered.of.Goals as goal
+use Rattle.hourbook.proofs.hourfile.gathered.Gathered.from_bytes.Goals as goal
 
 pub loop-record-init : goal.loop-record-init
 loop-record-init c = (collects_none _ _ _ c.of-records.ensures, omega (arith, ap length c.of-records.ensures))
