@@ -13,7 +13,6 @@ use crate::settlement::amount::{amount_of, share_amount};
 use crate::settlement::deal::deal_lines;
 use crate::settlement::fault::SettlementFault;
 use crate::settlement::income::income;
-use crate::settlement::line_row::LineRow;
 use crate::settlement::weights::{weigh_all, write_weights};
 use sharing::{Amount, LARGEST_AMOUNT, LARGEST_WEIGHT_SUM, Plain};
 
@@ -62,14 +61,8 @@ fn fill_work<R: Region>(region: &R, amount: Amount, work: &mut [i64])
     requires room { 2 * length (R.meaning region.now).lines ≤ length work.old }
     ensures { work.new ≡ written work.old 0 (map pos (weights (R.meaning region.now) ++ shares amount.cents (weights (R.meaning region.now)))) }
 {
-    let lines = region.line_count();
-    // no heap in settling, and a region has at most 64 lines
-    let mut rows = [LineRow {
-        number: 0,
-        weight: 0,
-    }; 64];
-    write_weights(region, &mut rows, work);
-    share_amount(amount, &rows[..lines], &Plain, &mut work[lines..]);
+    let rows = write_weights(region, work);
+    share_amount(amount, &rows, &Plain, &mut work[region.line_count()..]);
 }
 
 // Credits the owners: an income by the lines' shares, a loss in equal parts.

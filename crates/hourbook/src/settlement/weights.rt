@@ -8,6 +8,7 @@ ghost use Rattle.hourbook.specs.LineRows.{line_rows_from};
 use crate::region::meaning::Region;
 use crate::region::rows::Line;
 use crate::settlement::line_row::LineRow;
+use arrayvec::ArrayVec;
 
 impl Line {
     // What flow times spread is worth, in cents, rounded up; against the spread it weighs as much as with it.
@@ -28,20 +29,21 @@ pub(crate) fn weigh_all<R: Region>(region: &R) -> u64
     region.lines().map(|line| line.weight()).sum()
 }
 
-// Writes the lines' weights to the first places of `rows` and of `work`.
-pub(crate) fn write_weights<R: Region>(region: &R, rows: &mut [LineRow], work: &mut [i64])
-    requires rows { length (R.meaning region.now).lines ≤ length rows.old }
-    requires work { length (R.meaning region.now).lines ≤ length work.old }
-    ensures rows { rows.new ≡ written rows.old 0 (line_rows_from 1 (weights (R.meaning region.now))) }
+// Writes the lines' weights to the first places of `work`, and answers the lines as rows to share over.
+pub(crate) fn write_weights<R: Region>(region: &R, work: &mut [i64]) -> ArrayVec<LineRow, 64>
+    requires { length (R.meaning region.now).lines ≤ length work.old }
+    ensures rows { result.items ≡ line_rows_from 1 (weights (R.meaning region.now)) }
     ensures work { work.new ≡ written work.old 0 (map pos (weights (R.meaning region.now))) }
 {
+    let mut rows = ArrayVec::new();
     // by place, since a proof knows nothing of a slice that was written through a zip
     for (k, line) in region.lines().enumerate() {
         let weight = line.weight();
-        rows[k] = LineRow {
+        rows.push(LineRow {
             number: (k + 1) as u8,
             weight,
-        };
+        });
         work[k] = weight as i64;
     }
+    rows
 }

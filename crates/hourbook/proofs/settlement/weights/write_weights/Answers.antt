@@ -1,7 +1,7 @@
-use Rattle.std.proofs.Common.{◌≡◌, ℕ, ◌+◌, ◌<◌, ◌≤◌, map, length, get_or, drop, pos, sym, ap, ◌∙◌, subst, arith, w64, to_z}
+use Rattle.std.proofs.Common.{◌≡◌, ℕ, ◌+◌, ◌<◌, ◌≤◌, [], ◌∷◌, ◌++◌, map, length, get_or, take, drop, pos, sym, ap, ◌∙◌, subst, arith, w64, to_z}
 use Rattle.std.proofs.lemmas.Int.{to_z_pos}
 use Rattle.std.proofs.lemmas.Iterator.Consumers.{YieldsList-at, YieldsList-from_first, YieldsList-from_enumerate, YieldsList-turn, YieldsList-end}
-use Rattle.std.proofs.lemmas.List.{at_drop_all, length-map, length_push, get_or-map}
+use Rattle.std.proofs.lemmas.List.{at_drop_all, length-map, length_push, length-take-le, take_all, take_more, get_or-map}
 use Rattle.std.proofs.lemmas.List.FromFn.{length-enumerate_from, get_or-enumerate_from}
 use Rattle.sharing.specs.Writes.{written}
 use Rattle.sharing.proofs.Writing.{written_none}
@@ -31,10 +31,19 @@ weight-weight-requires g c =
     let t = turn g (goal.at.weight-weight-requires g c).In-Some in
     subst LineBounded (sym (ap (λ p. p.1) t.1)) ((g.met.R.Region.bounded c.args.region.now).each_line (length c.loop-k.yielded) c.in-Some.line t.0)
 
-pub overflow_cast-rows : goal.overflow_cast-rows
-overflow_cast-rows g c =
-    let t = turn g (goal.at.overflow_cast-rows g c).In-Some in
+pub overflow_cast-k : goal.overflow_cast-k
+overflow_cast-k g c =
+    let t = turn g (goal.at.overflow_cast-k g c).In-Some in
     omega (arith, ap (λ p. p.0) t.1, t.0, (g.met.R.Region.bounded c.args.region.now).few_lines)
+
+pub push-requires : goal.push-requires
+push-requires g c =
+    let t = turn g (goal.at.push-requires g c).In-Some in
+    let ws = weights (g.R.Region.meaning c.args.region.now) in
+    let n = length c.loop-k.yielded in
+    let count = length_rows 1 ws in
+    let long = length-map (g.R.Region.meaning c.args.region.now).lines weight in
+    omega (arith, t.0, ap length c.loop-k.invariant.0, length-take-le n (line_rows_from 1 ws) (omega (arith, t.0)), (g.met.R.Region.bounded c.args.region.now).few_lines)
 
 pub loop-k-preserved : goal.loop-k-preserved
 loop-k-preserved g c =
@@ -56,7 +65,7 @@ loop-k-preserved g c =
     let value : to_z w64 w ≡ get_or (map pos ws) n (pos 0) =
     to_z_pos w64 w (omega (arith, c.weight-weight.ensures.bound)) ∙ (ap pos weighs ∙ sym (get_or-map pos ws n 0 (pos 0) long)) in
     rw (length_push c.loop-k.yielded (k, c.in-Some.line)) (
-      fill_next (line_rows_from 1 ws) c.loop-k.rows n k row row here (omega arith) (omega arith) row_is ∙ c.loop-k.invariant.0,
+      c.push.ensures.items ∙ (ap (λ l. l ++ (row ∷ [])) c.loop-k.invariant.0 ∙ (ap (λ r. take n (line_rows_from 1 ws) ++ (r ∷ [])) row_is ∙ sym (take_more (line_rows_from 1 ws) n row (omega arith)))),
       fill_next (map pos ws) c.loop-k.work n k (to_z w64 w) (pos 0) here (omega arith) (omega arith) value ∙ c.loop-k.invariant.1,
     )
 
@@ -71,6 +80,6 @@ returns g c =
     let rows : length (line_rows_from 1 ws) ≤ n = omega (arith, length_rows 1 ws) in
     let places : length (map pos ws) ≤ n = omega (arith, length-map ws pos) in
     record {
-      rows = sym (written_none c.loop-k.rows n) ∙ (sym (at_drop_all (written c.loop-k.rows n) (line_rows_from 1 ws) n rows) ∙ c.loop-k.invariant.0);
+      rows = c.loop-k.invariant.0 ∙ take_all n (line_rows_from 1 ws) rows;
       work = sym (written_none c.loop-k.work n) ∙ (sym (at_drop_all (written c.loop-k.work n) (map pos ws) n places) ∙ c.loop-k.invariant.1);
     }

@@ -1,4 +1,4 @@
-use Rattle.std.proofs.Common.{◌≡◌, map, length, drop, pos}
+use Rattle.std.proofs.Common.{◌≡◌, map, length, take, drop, pos}
 use Rattle.sharing.specs.Writes.{written}
 use Rattle.hourbook.specs.Worths.{weights}
 use Rattle.hourbook.specs.LineRows.{line_rows_from}
@@ -8,5 +8,5 @@ abbrev pub invariant-loop-k : goal.invariant-loop-k
 invariant-loop-k g l =
     let ws = weights (g.R.Region.meaning l.region) in
     let k = length l.yielded in
-    (written l.rows k (drop k (line_rows_from 1 ws)) ≡ written l.initial.rows 0 (line_rows_from 1 ws))
+    (l.rows.items ≡ take k (line_rows_from 1 ws))
     × (written l.work k (drop k (map pos ws)) ≡ written l.initial.work 0 (map pos ws))
