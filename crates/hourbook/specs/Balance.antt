@@ -1,5 +1,5 @@
 -- When the tables of the coordinated method are sound.
-use Rattle.std.specs.Prelude.{sum, ◌≡◌, ℕ, ◌+◌, ◌<◌, ◌≤◌, cond, List, map, length, ℤ, pos, ◌-ℤ◌, Ok, Err, Result, ◌==◌, slice_index_or, unsigned_abs}
+use Rattle.std.specs.Prelude.{sum, ◌≡◌, ℕ, ◌+◌, ◌<◌, ◌≤◌, if◌then◌else◌, List, map, length, ℤ, pos, ◌-ℤ◌, Ok, Err, Result, ◌==◌, slice_index_or, unsigned_abs}
 use Rattle.hourbook.specs.SignedSums.{sum_z}
 use Rattle.hourbook.specs.declared.hourfile.border.Border.{Border}
 use Rattle.hourbook.specs.declared.region.fault.Flaw.{Flaw}
@@ -7,7 +7,7 @@ use Rattle.hourbook.specs.declared.region.fault.Flaw.TheVariants.{Imbalance, Exc
 
 -- a number, where the end of its border is the zone
 abbrev pub only : ℕ → ℕ → ℤ → ℤ
-only end zone z = cond (end == zone) z (pos 0)
+only end zone z = if end == zone then z else pos 0
 
 -- the capacity of a border that leaves the zone, less what enters it
 abbrev pub at_zone : ℕ → Border → ℤ

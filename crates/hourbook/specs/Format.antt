@@ -1,17 +1,18 @@
 -- Where a record stands whole.
-use Rattle.std.specs.Prelude.{ℕ, ◌<◌, ◌≤◌, cond, List, length, ◌==◌, slice_index}
+use Rattle.std.specs.Prelude.{ℕ, ◌<◌, ◌≤◌, if◌then◌else◌, List, length, ◌==◌, slice_index}
 
 -- the length of a record by its letter, of H, Z, B, L, P, N, O and E, and 0 where none begins so
 abbrev pub size_of : ℕ → ℕ
 size_of letter =
-    cond (letter == 72) 7
-    (cond (letter == 90) 9
-    (cond (letter == 66) 7
-    (cond (letter == 76) 4
-    (cond (letter == 80) 5
-    (cond (letter == 78) 4
-    (cond (letter == 79) 5
-    (cond (letter == 69) 1 0)))))))
+    if letter == 72 then 7
+    else if letter == 90 then 9
+    else if letter == 66 then 7
+    else if letter == 76 then 4
+    else if letter == 80 then 5
+    else if letter == 78 then 4
+    else if letter == 79 then 5
+    else if letter == 69 then 1
+    else 0
 
 abbrev pub size : List ℕ → ℕ
 size bytes = size_of (slice_index bytes 0)

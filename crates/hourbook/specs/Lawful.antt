@@ -1,5 +1,5 @@
 -- What each record may say, whatever stands beside it.
-use Rattle.std.specs.Prelude.{◌≡◌, ℕ, ◌≤◌, cond, ℤ, pos, Some, None, Option, ◌==◌, unsigned_abs}
+use Rattle.std.specs.Prelude.{◌≡◌, ℕ, ◌≤◌, if◌then◌else◌, ℤ, pos, Some, None, Option, ◌==◌, unsigned_abs}
 use Rattle.hourbook.specs.declared.hourfile.method.Method.{Method}
 use Rattle.hourbook.specs.declared.hourfile.method.Method.TheVariants.{FlowBased, Coordinated}
 use Rattle.hourbook.specs.declared.hourfile.«record».Record.{Record}
@@ -7,7 +7,7 @@ use Rattle.hourbook.specs.declared.hourfile.«record».Record.TheVariants.{Heade
 
 -- the method by its number
 abbrev pub method_of : ℕ → Option Method
-method_of n = cond (n == 1) (Some FlowBased) (cond (n == 2) (Some Coordinated) None)
+method_of n = if n == 1 then Some FlowBased else if n == 2 then Some Coordinated else None
 
 -- the flow-based method allocates no capacity
 abbrev pub CapacityInRange : Method → ℤ → Type 0

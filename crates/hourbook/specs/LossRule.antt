@@ -1,5 +1,5 @@
 -- How losses narrow the spread of each line. Assumes nothing.
-use Rattle.std.specs.Prelude.{ℕ, suc, ◌-◌, ◌*◌, ◌/◌, cond, List, [], ◌∷◌, ℤ, pos, negsuc, neg_ℤ, int_lt, unsigned_abs}
+use Rattle.std.specs.Prelude.{ℕ, suc, ◌-◌, ◌*◌, ◌/◌, if◌then◌else◌, List, [], ◌∷◌, ℤ, pos, negsuc, neg_ℤ, int_lt, unsigned_abs}
 use Rattle.hourbook.specs.declared.region.rows.Line.{Line}
 use Rattle.hourbook.specs.Meaning.{Meaning}
 
@@ -10,7 +10,7 @@ shrink (negsuc a) n = neg_ℤ (pos (suc a - n))
 
 -- the price at the end that the flow leaves; no flow leaves the near end
 abbrev pub leaving_price : Line → ℤ
-leaving_price l = cond (int_lt l.flow (pos 0)) l.far_price l.near_price
+leaving_price l = if int_lt l.flow (pos 0) then l.far_price else l.near_price
 
 -- what a loss of so many ten-thousandths takes of that price
 abbrev pub drained : ℕ → Line → ℕ

@@ -1,5 +1,5 @@
 -- What settling a region gives: when it refuses, and what it writes.
-use Rattle.std.specs.Prelude.{sum, ◌≡◌, ℕ, suc, ◌*◌, ◌≤◌, cond, List, ◌++◌, map, length, ℤ, pos, negsuc, Ok, Err, vec_items, Result, ◌==◌, nat_lt, unsigned_abs}
+use Rattle.std.specs.Prelude.{not, sum, ◌≡◌, ℕ, suc, ◌*◌, ◌≤◌, if◌then◌else◌, List, ◌++◌, map, length, ℤ, pos, negsuc, Ok, Err, vec_items, Result, ◌==◌, nat_lt, unsigned_abs}
 use Rattle.sharing.specs.Shares.{shares}
 use Rattle.sharing.specs.Levels.{dealt}
 use Rattle.hourbook.specs.declared.entry.credit.Origin.{Origin}
@@ -23,12 +23,11 @@ and_then wrap (Err e) next = Err (wrap e)
 -- the income, or the first reason to refuse, with an ownership table of so many lines and so much work memory
 abbrev pub judged : Meaning → ℕ → ℕ → Result ℤ SettlementFault
 judged m lines room = and_then (λ f. Region (Unsound f)) m.verdict (λ _.
-    cond (length m.lines == lines)
-    (cond (nat_lt room (2 * length m.lines)) (Err Work)
-    (cond (nat_lt 2000000000 (unsigned_abs (income_of m))) (Err Limit)
-    (cond (nat_lt 4000000000 (sum (weights m))) (Err Limit)
-    (Ok (income_of m)))))
-    (Err Lines))
+    if not (length m.lines == lines) then Err Lines
+    else if nat_lt room (2 * length m.lines) then Err Work
+    else if nat_lt 2000000000 (unsigned_abs (income_of m)) then Err Limit
+    else if nat_lt 4000000000 (sum (weights m)) then Err Limit
+    else Ok (income_of m))
 
 -- what holds where none of the reasons does
 pub record Accepted (m : Meaning) (count size : ℕ) (income : ℤ) : Type 0 where

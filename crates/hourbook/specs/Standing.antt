@@ -1,5 +1,5 @@
 -- Which hours stand.
-use Rattle.std.specs.Prelude.{ℕ, Bool, true, false, cond, List, fold, ◌==◌}
+use Rattle.std.specs.Prelude.{ℕ, Bool, true, false, if◌then◌else◌, List, fold, ◌==◌}
 use Rattle.hourbook.specs.declared.entry.kind.EntryKind.{EntryKind}
 use Rattle.hourbook.specs.declared.entry.kind.EntryKind.TheVariants.{Credit, TakenBack, Payment}
 use Rattle.hourbook.specs.declared.entry.row.Row.{Row}
@@ -18,7 +18,7 @@ decides Payment = false
 
 -- an entry of the hour decides by its kind, and another leaves it
 abbrev pub turn : ℕ → Bool → Row → Bool
-turn hour s e = cond (e.hour == hour) (after e.kind s) s
+turn hour s e = if e.hour == hour then after e.kind s else s
 
 -- an hour stands where the last of its entries of kind C or T has kind C
 abbrev pub standing : ℕ → List Row → Bool

@@ -1,5 +1,5 @@
 -- Rules 6 and 7: every line has a leg that contributes, and every leg is owned whole.
-use Rattle.std.specs.Prelude.{Some, None, Option, ◌≡◌, ℕ, ◌-◌, ◌<◌, ◌≤◌, min, cond, List, sum_by, ◌==◌, slice_index}
+use Rattle.std.specs.Prelude.{Some, None, Option, ◌≡◌, ℕ, ◌-◌, ◌<◌, ◌≤◌, min, if◌then◌else◌, List, sum_by, ◌==◌, slice_index}
 use Rattle.hourbook.specs.declared.hourfile.fault.FileFault.{FileFault}
 use Rattle.hourbook.specs.declared.hourfile.fault.FileFault.TheVariants.{Contribution, Keys}
 use Rattle.hourbook.specs.declared.hourfile.«record».Record.{Record}
@@ -9,17 +9,17 @@ use Rattle.hourbook.specs.Passes.{Passed}
 
 -- what a record contributes to line n
 abbrev pub contribution_to : ℕ → Record → ℕ
-contribution_to n (Leg x) = cond (x.line == n) x.contribution 0
+contribution_to n (Leg x) = if x.line == n then x.contribution else 0
 contribution_to n _ = 0
 
 -- how much of leg n a record gives to an owner
 abbrev pub key_to : ℕ → Record → ℕ
-key_to n (Owner x) = cond (x.leg == n) x.key 0
+key_to n (Owner x) = if x.leg == n then x.key else 0
 key_to n _ = 0
 
 -- what a part, if there is one, gives to number n
 abbrev pub given : Option (ℕ × ℕ) → ℕ → ℕ
-given (Some part) n = cond (part.0 == n) part.1 0
+given (Some part) n = if part.0 == n then part.1 else 0
 given None n = 0
 
 -- the sums by number of what the records give, none above the largest of two bytes

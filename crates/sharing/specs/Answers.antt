@@ -1,12 +1,12 @@
 -- When a sharing is refused.
-use Rattle.std.specs.Prelude.{ℕ, ◌+◌, Bool, cond, List, [], ◌∷◌, Ok, Err, Result, nat_lt}
+use Rattle.std.specs.Prelude.{ℕ, ◌+◌, Bool, if◌then◌else◌, List, [], ◌∷◌, Ok, Err, Result, nat_lt}
 use Rattle.sharing.specs.declared.fault.SharingFault.{SharingFault}
 use Rattle.sharing.specs.declared.fault.SharingFault.TheVariants.{Room, Limit}
 
 -- the fault of the first reason that holds
 abbrev pub first_of : List (Bool × SharingFault) → Result (Unit {0}) SharingFault
 first_of [] = Ok tt
-first_of (r ∷ rs) = cond r.0 (Err r.1) (first_of rs)
+first_of (r ∷ rs) = if r.0 then Err r.1 else first_of rs
 
 -- whether the amount t is shared over n rows whose counted weights add to c, into a memory of `size` places from the
 -- place `at` on. With no rows, `at` may be as large as the size and no larger.

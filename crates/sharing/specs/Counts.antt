@@ -1,12 +1,12 @@
 -- What the code keeps of how rows count.
-use Rattle.std.specs.Prelude.{sum, ◌≡◌, ℕ, ◌≤◌, cond, List, ◌==◌}
+use Rattle.std.specs.Prelude.{sum, ◌≡◌, ℕ, ◌≤◌, if◌then◌else◌, List, ◌==◌}
 use Rattle.sharing.specs.Shares.{counts_as, whole}
 use Rattle.sharing.specs.declared.counting.Counting.{Counting}
 use Rattle.sharing.specs.declared.counting.Counting.TheVariants.{Equal, ByWeight}
 
 -- how so many rows count whose weights add to sum
 abbrev pub counting_of : ℕ → ℕ → Counting
-counting_of sum rows = cond (sum == 0) (Equal rows) (ByWeight sum)
+counting_of sum rows = if sum == 0 then Equal rows else ByWeight sum
 
 -- what all rows count
 abbrev pub all_count : Counting → ℕ

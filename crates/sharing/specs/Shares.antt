@@ -1,9 +1,9 @@
 -- How an amount is shared over rows by their weights, so that no cent is lost. Assumes nothing.
-use Rattle.std.specs.Prelude.{sum, ℕ, ◌+◌, ◌-◌, ◌*◌, ◌/◌, cond, List, [], ◌∷◌, map, take, ◌==◌}
+use Rattle.std.specs.Prelude.{sum, ℕ, ◌+◌, ◌-◌, ◌*◌, ◌/◌, if◌then◌else◌, List, [], ◌∷◌, map, take, ◌==◌}
 
 -- what a weight counts as where the weights add to sum: each as 1 where all are 0
 abbrev pub counts_as : ℕ → ℕ → ℕ
-counts_as sum w = cond (sum == 0) 1 w
+counts_as sum w = if sum == 0 then 1 else w
 
 -- the counted weights
 abbrev pub counted : List ℕ → List ℕ
