@@ -1,4 +1,4 @@
-use Rattle.std.proofs.Common.{◌≡◌, List, ℕ, map, length, is_ok, ap, ◌∙◌, arith}
+use Rattle.std.proofs.Common.{List, ℕ, map, length, is_ok, ap, ◌∙◌, arith}
 use Rattle.std.proofs.lemmas.List.{length-map}
 use Rattle.sharing.proofs.Cells.{accepted}
 use Rattle.sharing.proofs.Counted.{whole_light}

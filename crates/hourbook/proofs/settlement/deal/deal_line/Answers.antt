@@ -6,7 +6,7 @@ use Rattle.std.proofs.lemmas.List.{length-map}
 use Rattle.sharing.specs.Shares.{shares}
 use Rattle.sharing.specs.Writes.{written}
 use Rattle.sharing.proofs.Lawful.{adds, length-shares}
-use Rattle.sharing.proofs.Cells.{cells_plain, accepted_memory}
+use Rattle.sharing.proofs.Cells.{cells_plain}
 use Rattle.hourbook.specs.declared.hourfile.owned_leg.OwnedLeg.{OwnedLeg}
 use Rattle.hourbook.specs.Deals.{leg_deal}
 use Rattle.hourbook.specs.Legs.{contributions}

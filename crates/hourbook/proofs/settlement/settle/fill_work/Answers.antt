@@ -1,7 +1,7 @@
-use Rattle.std.proofs.Common.{◌≡◌, ◌-◌, ◌≤◌, List, map, length, take, drop, pos, ap, ◌∙◌, arith}
+use Rattle.std.proofs.Common.{◌≡◌, ◌-◌, List, map, length, take, drop, pos, ap, ◌∙◌, arith}
 use Rattle.std.proofs.lemmas.List.{length-map}
 use Rattle.hourbook.specs.declared.settlement.line_row.LineRow.{LineRow}
-use Rattle.sharing.specs.Shares.{total, shares}
+use Rattle.sharing.specs.Shares.{shares}
 use Rattle.sharing.specs.Writes.{written, cells}
 use Rattle.hourbook.specs.Worths.{weights, weight}
 use Rattle.hourbook.specs.LineRows.{line_rows_from}
