@@ -1,14 +1,9 @@
 -- How many owner rows legs and lines have. Assumes nothing.
-use Rattle.std.proofs.Common.{◌≡◌, ℕ, ◌+◌, ◌*◌, ◌≤◌, List, [], ◌∷◌, map, length, refl, sym, ap, ◌∙◌, arith}
+use Rattle.std.proofs.Common.{sum, ◌≡◌, ℕ, ◌+◌, ◌*◌, ◌≤◌, List, [], ◌∷◌, map, length, refl, sym, ap, ◌∙◌, arith}
 use Rattle.std.specs.List.{sum_by}
 use Rattle.std.proofs.lemmas.List.Sums.{sum_by-cons}
-use Rattle.sharing.specs.Shares.{total}
 use Rattle.hourbook.specs.declared.hourfile.owned_leg.OwnedLeg.{OwnedLeg}
 use Rattle.hourbook.specs.OwnerRows.{leg_rows}
-
-pub total-map : {X : Type 0} (f : X → ℕ) (xs : List X) → total (map f xs) ≡ sum_by f xs
-total-map f [] = refl
-total-map f (x ∷ xs) = ap (λ n. f x + n) (total-map f xs) ∙ sym (sum_by-cons f x xs)
 
 pub few_leg_rows : (legs : List OwnedLeg) → sum_by leg_rows legs ≤ length legs * 128
 few_leg_rows [] = omega arith

@@ -5,8 +5,7 @@ use Rattle.std.proofs.lemmas.List.{length-append}
 use Rattle.std.proofs.lemmas.List.Sums.{fold_push}
 use Rattle.hourbook.specs.declared.hourfile.«record».Record.{Record}
 use Rattle.hourbook.specs.Encoding.{encoded}
-use Rattle.hourbook.specs.Format.{Whole}
-use Rattle.hourbook.specs.Passes.{AllInTurn, FirstOut, Passed, Reads}
+use Rattle.hourbook.specs.Passes.{AllInTurn, FirstOut, Reads}
 use Rattle.hourbook.proofs.Passing.{reads_next}
 
 module _ {S : Type 0} (passes : S → Record → Type 0) (after : S → Record → S) where
@@ -31,9 +30,6 @@ module _ {S : Type 0} (passes : S → Record → Type 0) (after : S → Record �
     following_start e zero same = record { records = []; reads = e; counted = zero; keeps = tt; state = same }
 
     module _ (so : Following bytes rest count s now) where
-      pub following_end : (Whole rest → ⊥) → Passed (λ rs. AllInTurn passes after s rs × (fold after s rs ≡ now)) bytes
-      following_end none = record { records = so.records; rest = rest; reads = so.reads; ends = none; keeps = (so.keeps, so.state) }
-
       module _ (left : List ℕ) (x : Record) (split : rest ≡ encoded x ++ left) where
         pub following_next : (more : ℕ) (next : S) → more ≡ count + 1 → passes now x → next ≡ after now x → Following bytes left more s next
         following_next more next one pass e = record {

@@ -1,15 +1,12 @@
+pub mod Rest
 pub mod Dealing
 pub mod Adding
 pub mod Nths
-pub mod Lessened
-pub mod Facts
 pub mod LineRowed
-pub mod Spreads
 pub mod Parts
 pub mod Sinking
 pub mod Owns
 pub mod Stands
-pub mod Kept
 pub mod Collect
 pub mod Passing
 pub mod Sequences

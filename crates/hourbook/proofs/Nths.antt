@@ -1,55 +1,27 @@
--- The k-th of mapped and paired lists. Assumes nothing.
-use Rattle.std.proofs.Common.{◌≡◌, ℕ, zero, suc, ◌-◌, ◌<◌, ◌≤◌, List, [], ◌∷◌, map, length, get_or, ℤ, pos, Some, None, sym, refl, ap, ◌∙◌, arith}
-use Rattle.std.specs.List.{slice_get}
-use Rattle.std.proofs.lemmas.List.{get_or-map, get_or_past, length-map}
-use Rattle.hourbook.specs.Tables.{Price, NetPosition, cents_of, tenths_of, price_at}
-use Rattle.hourbook.specs.Coordinated.{zones_of}
+-- What is at a place of a table. Assumes nothing.
+use Rattle.std.proofs.Common.{◌≡◌, ℕ, zero, suc, List, [], ◌∷◌, length, Some, None, Ok, Err, Option, Result, Bor, sym, refl}
+use Rattle.std.specs.List.{slice_get, zip}
+use Rattle.std.specs.Option.{option_map, option_and_then, option_copied}
+use Rattle.std.specs.Result.{result_ok}
+use Rattle.std.specs.Slice.{IsItemAt}
+use Rattle.std.proofs.lemmas.Option.{slice_get_read, slice_get_past}
+use Rattle.hourbook.specs.declared.region.fault.Flaw.{Flaw}
 
-pub nth-map_at : {X Y : Type 0} (f : X → Y) (xs : List X) (k : ℕ) (x : X) → k < length xs → x ≡ get_or xs k x → slice_get (map f xs) k ≡ Some (f x)
-nth-map_at f [] k x h e = absurd (omega arith)
-nth-map_at f (y ∷ ys) zero x h e = ap (λ z. Some (f z)) (sym e)
-nth-map_at f (y ∷ ys) (suc k) x h e = nth-map_at f ys k x (omega arith) e
+pub copied_from_item : {X : Type 0} (xs : List X) (k : ℕ) (r : Option (Bor X)) → IsItemAt xs k r → option_copied r ≡ slice_get xs k
+copied_from_item xs k None h = sym (slice_get_past xs k h.3)
+copied_from_item xs k (Some x) h = sym (slice_get_read xs (length xs) k x.now refl h.3.0 h.1)
 
-pub nth-map_past : {X Y : Type 0} (f : X → Y) (xs : List X) (k : ℕ) → length xs ≤ k → slice_get (map f xs) k ≡ None
-nth-map_past f [] k h = refl
-nth-map_past f (x ∷ xs) zero h = absurd (omega arith)
-nth-map_past f (x ∷ xs) (suc k) h = nth-map_past f xs k (omega arith)
+none_from_none : {A B : Type 0} (o : Option A) → ◌≡◌ {A = Option B} None (option_and_then (λ _. None) o)
+none_from_none None = refl
+none_from_none (Some x) = refl
 
-pub zones_at : (ps : List Price) (ns : List NetPosition) (k : ℕ) (p : Price) (n : NetPosition) → k < length ps → k < length ns → p ≡ get_or ps k p → n ≡ get_or ns k n
-    → slice_get (zones_of (cents_of ps) (tenths_of ns)) k ≡ Some (record { price = p.value; position = n.value })
-zones_at [] ns k p n h i e f = absurd (omega arith)
-zones_at (q ∷ ps) [] k p n h i e f = absurd (omega arith)
-zones_at (q ∷ ps) (m ∷ ns) zero p n h i e f = ap (λ (z : Price). Some (record { price = z.value; position = m.value })) (sym e) ∙ ap (λ (z : NetPosition). Some (record { price = p.value; position = z.value })) (sym f)
-zones_at (q ∷ ps) (m ∷ ns) (suc k) p n h i e f = zones_at ps ns k p n (omega arith) (omega arith) e f
+pub slice_get-zip : {A B : Type 0} (xs : List A) (ys : List B) (k : ℕ) → slice_get (zip xs ys) k ≡ option_and_then (λ x. option_map (λ y. (x, y)) (slice_get ys k)) (slice_get xs k)
+slice_get-zip [] ys k = refl
+slice_get-zip (x ∷ xs) [] zero = refl
+slice_get-zip (x ∷ xs) [] (suc k) = none_from_none (slice_get xs k)
+slice_get-zip (x ∷ xs) (y ∷ ys) zero = refl
+slice_get-zip (x ∷ xs) (y ∷ ys) (suc k) = slice_get-zip xs ys k
 
-pub zones_past_prices : (ps ns : List ℤ) (k : ℕ) → length ps ≤ k → slice_get (zones_of ps ns) k ≡ None
-zones_past_prices [] ns k h = refl
-zones_past_prices (p ∷ ps) [] k h = refl
-zones_past_prices (p ∷ ps) (n ∷ ns) zero h = absurd (omega arith)
-zones_past_prices (p ∷ ps) (n ∷ ns) (suc k) h = zones_past_prices ps ns k (omega arith)
-
-pub zones_past_positions : (ps ns : List ℤ) (k : ℕ) → length ns ≤ k → slice_get (zones_of ps ns) k ≡ None
-zones_past_positions [] ns k h = refl
-zones_past_positions (p ∷ ps) [] k h = refl
-zones_past_positions (p ∷ ps) (n ∷ ns) zero h = absurd (omega arith)
-zones_past_positions (p ∷ ps) (n ∷ ns) (suc k) h = zones_past_positions ps ns k (omega arith)
-
--- where there are as many prices as net positions, there are as many zones
-pub zones_length : (ps ns : List ℤ) → length ps ≡ length ns → length (zones_of ps ns) ≡ length ns
-zones_length [] [] h = refl
-zones_length [] (n ∷ ns) h = absurd (omega arith)
-zones_length (p ∷ ps) [] h = refl
-zones_length (p ∷ ps) (n ∷ ns) h = ap suc (zones_length ps ns (omega arith))
-
--- the price of a zone is read at the place before its number
-module _ (xs ps : List Price) (k zone : ℕ) (same : xs ≡ ps) (place : k ≡ zone - 1) where
-  pub price_read : (p : Price) → k < length xs → p ≡ get_or xs k p → p.value ≡ price_at (cents_of ps) zone
-  price_read p h read =
-      ap (λ (q : Price). q.value) read
-      ∙ (sym (get_or-map (λ (q : Price). q.value) xs k p (pos 0) h)
-      ∙ (ap (λ n. get_or (cents_of xs) n (pos 0)) place ∙ ap (λ l. price_at (cents_of l) zone) same))
-
-  pub price_none : length xs ≤ k → pos 0 ≡ price_at (cents_of ps) zone
-  price_none h =
-      sym (get_or_past (cents_of xs) k (pos 0) (omega (arith, length-map xs (λ (q : Price). q.value))))
-      ∙ (ap (λ n. get_or (cents_of xs) n (pos 0)) place ∙ ap (λ l. price_at (cents_of l) zone) same)
+pub sound : (verdict : Result (Unit {0}) Flaw) → result_ok verdict ≡ Some tt → verdict ≡ Ok tt
+sound (Ok _) e = refl
+sound (Err f) e = cc

@@ -1,7 +1,8 @@
 -- What stands in work memory. Assumes nothing.
-use Rattle.std.proofs.Common.{◌≡◌, ℕ, ◌+◌, ◌-◌, ◌*◌, ◌≤◌, List, [], ◌∷◌, ◌++◌, map, length, take, drop, ℤ, pos, negsuc, nat_abs, ◌≤ℤ◌, vec_items, sym, refl, ap, ◌∙◌, arith}
+use Rattle.std.proofs.Common.{sum, ◌≡◌, ℕ, ◌+◌, ◌-◌, ◌*◌, ◌≤◌, List, [], ◌∷◌, ◌++◌, map, length, take, drop, ℤ, pos, negsuc, nat_abs, ◌≤ℤ◌, vec_items, sym, refl, ap, ◌∙◌, arith}
 use Rattle.std.specs.Int.{int_max}
 use Rattle.std.proofs.lemmas.Int.{int_max_is, ints}
+use Rattle.sharing.proofs.Totals.{sum-cons}
 use Rattle.sharing.proofs.Writing.{written-append}
 use Rattle.hourbook.specs.declared.hourfile.owner.Owner.{Owner}
 use Rattle.hourbook.specs.declared.hourfile.owned_line.OwnedLine.{OwnedLine}
@@ -11,12 +12,7 @@ use Rattle.hourbook.specs.declared.hourfile.ownership.Ownership.{Ownership}
 use Rattle.hourbook.specs.OwnerRows.{rows_of}
 use Rattle.hourbook.specs.Settled.{paid, credit, needed}
 use Rattle.std.proofs.lemmas.List.{append_assoc, take_at, drop_at, map-append, length-map}
-use Rattle.sharing.specs.Shares.{total}
 use Rattle.sharing.specs.Writes.{written}
-
--- the front of memory that was written over
-pub front : {X : Type 0} (m xs : List X) (n : ℕ) → length xs ≡ n → take n (written m 0 xs) ≡ xs
-front m xs n e = take_at xs _ n e
 
 pub abs_all : (ss : List ℕ) → map nat_abs (map pos ss) ≡ ss
 abs_all [] = refl
@@ -35,9 +31,9 @@ second m ws ss n e f =
     ∙ (ap (take n) (drop_at p (q ++ rest) n (length-map ws pos ∙ e))
     ∙ take_at q rest n (length-map ss pos ∙ f)))
 
-pub ones_total : {X : Type 0} (xs : List X) → total (map (λ (x : X). 1) xs) ≡ length xs
-ones_total [] = refl
-ones_total (x ∷ xs) = omega (arith, ones_total xs)
+pub sum-ones : {X : Type 0} (xs : List X) → sum (map (λ (x : X). 1) xs) ≡ length xs
+sum-ones [] = refl
+sum-ones (x ∷ xs) = omega (arith, sum-ones xs, sum-cons 1 (map (λ _. 1) xs))
 
 -- weights, and then shares
 pub both : (m : List ℤ) (ws ss : List ℕ) (n : ℕ) → length ws ≡ n → n ≤ length m → written (written m 0 (map pos ws)) n (map pos ss) ≡ written m 0 (map pos (ws ++ ss))

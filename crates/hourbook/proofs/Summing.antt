@@ -1,14 +1,14 @@
 -- Sums by number, one record more. Assumes nothing.
-use Rattle.std.proofs.Common.{◌≡◌, ℕ, ◌+◌, ◌-◌, ◌<◌, ◌≤◌, min, cond, eqb, ◌⊎◌, List, [], ◌∷◌, ◌++◌, length, get_or, replicate, sum_by, sym, refl, ap, ◌∙◌, subst, inl, inr, ⊎_elim, arith, length-set, get_or-set_other, get_or-set_same}
+use Rattle.std.proofs.Common.{◌≡◌, ℕ, ◌+◌, ◌-◌, min, cond, eqb, ◌⊎◌, List, [], ◌∷◌, ◌++◌, length, get_or, replicate, sum_by, sym, refl, ap, ◌∙◌, subst, inl, inr, ⊎_elim, arith, length-set}
 use lib.ListN.{get_or-replicate}
-use Rattle.std.proofs.lemmas.Bool.{cases_eq, cases_lt, cond-true, cond-false, eq-eqb, ne_eqb}
+use Rattle.std.proofs.lemmas.Bool.{cases_lt, cond-false, ne_eqb}
 use Rattle.std.proofs.lemmas.List.Sums.{sum_by_push}
+use Rattle.std.proofs.lemmas.Grind.{common_steps}
+use Rattle.std.proofs.lemmas.Bool.Decides.{nat_tests}
 use Rattle.hourbook.specs.declared.hourfile.«record».Record.{Record}
 use Rattle.hourbook.specs.Encoding.{encoded}
-use Rattle.hourbook.specs.Format.{Whole}
 use Rattle.hourbook.specs.Passes.{Reads}
 use Rattle.hourbook.proofs.Passing.{reads_next}
-use Rattle.hourbook.specs.Wholeness.{SumsOf}
 use Rattle.hourbook.specs.Numbering.{Numbered}
 use Rattle.hourbook.specs.Sums.{plus}
 
@@ -27,40 +27,31 @@ module _ (f : ℕ → Record → ℕ) where
       each = λ n h. so.each n h ∙ ap (λ s. min s 65535) (omega (arith, sum_by_push (f n) rs x, none n h));
     }
 
-    pub summed_plus : (i v : ℕ) → Numbered 64 i → f i x ≡ v → ((n : ℕ) → (n ≡ i → ⊥) → f n x ≡ 0) → Summed f (rs ++ (x ∷ [])) (plus sums i v)
-    summed_plus i v at here others = record {
+    summed_plus : (i v : ℕ) → Numbered 64 i → ((n : ℕ) → f n x ≡ cond (eqb i n) v 0) → Summed f (rs ++ (x ∷ [])) (plus sums i v)
+    summed_plus i v at gives = record {
       long = length-set sums (i - 1) (min (get_or sums (i - 1) 0 + v) 65535) ∙ so.long;
-      each = λ n h. ⊎_elim
-          (λ e. same n e)
-          (λ ne. other n h ne)
-          (cases_eq n i);
+      each = λ n h. told n h (sum_by_push (f n) rs x) (so.each n h) (so.each i at) (gives n);
     }
       where
-        same : (n : ℕ) → n ≡ i → get_or (plus sums i v) (n - 1) 0 ≡ min (sum_by (f n) (rs ++ (x ∷ []))) 65535
-        same n e = subst (λ m. get_or (plus sums i v) (m - 1) 0 ≡ min (sum_by (f m) (rs ++ (x ∷ []))) 65535) (sym e)
-            (get_or-set_same sums (i - 1) (min (get_or sums (i - 1) 0 + v) 65535) 0 (omega (arith, at.0, at.1, so.long))
-            ∙ omega (arith, so.each i at, sum_by_push (f i) rs x, here))
-
-        other : (n : ℕ) → Numbered 64 n → (n ≡ i → ⊥) → get_or (plus sums i v) (n - 1) 0 ≡ min (sum_by (f n) (rs ++ (x ∷ []))) 65535
-        other n h ne =
-            get_or-set_other sums (i - 1) (n - 1) (min (get_or sums (i - 1) 0 + v) 65535) 0 (λ e. ne (omega (arith, e, h.0, at.0)))
-            ∙ (so.each n h ∙ ap (λ s. min s 65535) (omega (arith, sum_by_push (f n) rs x, others n ne)))
+        told : (n : ℕ) → Numbered 64 n → sum_by (f n) (rs ++ (x ∷ [])) ≡ sum_by (f n) rs + f n x → get_or sums (n - 1) 0 ≡ min (sum_by (f n) rs) 65535 → get_or sums (i - 1) 0 ≡ min (sum_by (f i) rs) 65535 → f n x ≡ cond (eqb i n) v 0
+            → get_or (plus sums i v) (n - 1) 0 ≡ min (sum_by (f n) (rs ++ (x ∷ []))) 65535
+        told n h push here there gives = grind (arith, common_steps, nat_tests, so.long)
 
 numbered_or_not : (n : ℕ) → Numbered 64 n ⊎ (Numbered 64 n → ⊥)
 numbered_or_not n = ⊎_elim
-    (λ low. inr (λ h. absurd (omega (arith, low, h.0))))
-    (λ some. ⊎_elim (λ high. inr (λ h. absurd (omega (arith, high, h.1)))) (λ few. inl (omega (arith, some), omega (arith, few))) (cases_lt 64 n))
+    (λ low. inr (λ h. omega arith))
+    (λ some. ⊎_elim (λ high. inr (λ h. omega arith)) (λ few. inl (omega arith, omega arith)) (cases_lt 64 n))
     (cases_lt n 1)
 
 -- the record gives v to number i, which may be none
 module _ (f : ℕ → Record → ℕ) (rs : List Record) (x : Record) (sums after : List ℕ) (so : Summed f rs sums) (i v : ℕ) (gives : (n : ℕ) → f n x ≡ cond (eqb i n) v 0) where
-  none_else : (n : ℕ) → (n ≡ i → ⊥) → f n x ≡ 0
-  none_else n ne = gives n ∙ cond-false (eqb i n) v 0 (ne_eqb i n (λ e. ne (sym e)))
+  none_out : (n : ℕ) → Numbered 64 n → (Numbered 64 i → ⊥) → f n x ≡ cond (eqb i n) v 0 → f n x ≡ 0
+  none_out n h out gives = gives ∙ cond-false (eqb i n) v 0 (ne_eqb i n (λ e. out (subst (Numbered 64) (sym e) h)))
 
-  pub summed_next : (Numbered 64 i → after ≡ plus sums i v) → ((Numbered 64 i → ⊥) → after ≡ sums) → Summed f (rs ++ (x ∷ [])) after
+  summed_next : (Numbered 64 i → after ≡ plus sums i v) → ((Numbered 64 i → ⊥) → after ≡ sums) → Summed f (rs ++ (x ∷ [])) after
   summed_next adds same = ⊎_elim
-      (λ at. subst (Summed f (rs ++ (x ∷ []))) (sym (adds at)) (summed_plus f rs x sums so i v at (gives i ∙ cond-true (eqb i i) v 0 (eq-eqb i i refl)) none_else))
-      (λ out. subst (Summed f (rs ++ (x ∷ []))) (sym (same out)) (summed_same f rs x sums so (λ n h. none_else n (λ e. out (subst (Numbered 64) e h)))))
+      (λ at. subst (Summed f (rs ++ (x ∷ []))) (sym (adds at)) (summed_plus f rs x sums so i v at gives))
+      (λ out. subst (Summed f (rs ++ (x ∷ []))) (sym (same out)) (summed_same f rs x sums so (λ n h. none_out n h out (gives n))))
       (numbered_or_not i)
 
 -- the records so far have these sums, and rest is left
@@ -74,9 +65,6 @@ module _ (f : ℕ → Record → ℕ) (bytes rest sums : List ℕ) where
   sums_start e zero = record { records = []; reads = e; summed = subst (Summed f []) (sym zero) (summed_none f) }
 
   module _ (so : SumsSoFar f bytes rest sums) where
-    pub sums_end : (Whole rest → ⊥) → SumsOf f bytes sums
-    sums_end none = record { records = so.records; rest = rest; reads = so.reads; ends = none; keeps = so.summed.each }
-
     module _ (left : List ℕ) (x : Record) (split : rest ≡ encoded x ++ left) where
       sums_more : (after : List ℕ) → Summed f (so.records ++ (x ∷ [])) after → SumsSoFar f bytes left after
       sums_more after summed = record { records = so.records ++ (x ∷ []); reads = reads_next bytes so.records rest left x so.reads split; summed = summed }
@@ -86,10 +74,3 @@ module _ (f : ℕ → Record → ℕ) (bytes rest sums : List ℕ) where
 
       pub sums_next : (after : List ℕ) (i v : ℕ) → ((n : ℕ) → f n x ≡ cond (eqb i n) v 0) → (Numbered 64 i → after ≡ plus sums i v) → ((Numbered 64 i → ⊥) → after ≡ sums) → SumsSoFar f bytes left after
       sums_next after i v gives adds same = sums_more after (summed_next f so.records x sums after so.summed i v gives adds same)
-
-pub some_sum : (s a : ℕ) → a ≡ min s 65535 → (a ≡ 0 → ⊥) → 0 < s
-some_sum s a e ne = ⊎_elim (λ more. more) (λ none. absurd (ne (omega (arith, e, none)))) (cases_lt 0 s)
-
--- to the last number, from those before it and itself
-pub to_last : (P : ℕ → Type 0) (l n : ℕ) → ((m : ℕ) → 1 ≤ m → m < l → P m) → P l → 1 ≤ n → n ≤ l → P n
-to_last P l n before here some low = ⊎_elim (λ lt. before n some lt) (λ ge. subst P (omega (arith, ge, low)) here) (cases_lt n l)

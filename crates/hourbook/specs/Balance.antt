@@ -1,6 +1,5 @@
 -- When the tables of the coordinated method are sound.
-use Rattle.std.specs.Prelude.{◌≡◌, ℕ, ◌+◌, ◌<◌, ◌≤◌, cond, List, map, length, ℤ, pos, ◌-ℤ◌, Some, None, Option, ◌==◌, slice_index_or, unsigned_abs}
-use Rattle.sharing.specs.Shares.{total}
+use Rattle.std.specs.Prelude.{sum, ◌≡◌, ℕ, ◌+◌, ◌<◌, ◌≤◌, cond, List, map, length, ℤ, pos, ◌-ℤ◌, Ok, Err, Result, ◌==◌, slice_index_or, unsigned_abs}
 use Rattle.hourbook.specs.SignedSums.{sum_z}
 use Rattle.hourbook.specs.declared.hourfile.border.Border.{Border}
 use Rattle.hourbook.specs.declared.region.fault.Flaw.{Flaw}
@@ -25,10 +24,10 @@ pub record Balanced (ns : List ℤ) (bs : List Border) : Type 0 where
 
 -- the magnitudes of the net positions keep their limit
 abbrev pub Limited : List ℤ → Type 0
-Limited ns = total (map unsigned_abs ns) ≤ 1000000
+Limited ns = sum (map unsigned_abs ns) ≤ 1000000
 
 -- the verdict on net positions and borders
-abbrev pub Judged : List ℤ → List Border → Option Flaw → Type 0
-Judged ns bs None = Balanced ns bs × Limited ns
-Judged ns bs (Some Imbalance) = Balanced ns bs → ⊥
-Judged ns bs (Some Excess) = Balanced ns bs × (Limited ns → ⊥)
+abbrev pub Judged : List ℤ → List Border → Result (Unit {0}) Flaw → Type 0
+Judged ns bs (Ok _) = Balanced ns bs × Limited ns
+Judged ns bs (Err Imbalance) = Balanced ns bs → ⊥
+Judged ns bs (Err Excess) = Balanced ns bs × (Limited ns → ⊥)

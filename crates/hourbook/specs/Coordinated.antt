@@ -1,5 +1,6 @@
 -- What tables of the coordinated method stand for.
-use Rattle.std.specs.Prelude.{List, [], ◌∷◌, map, ℤ, pos, ◌-ℤ◌, ◌*ℤ◌, Some, None, Ok, Err, Option}
+use Rattle.std.specs.Prelude.{List, [], map, ℤ, pos, ◌-ℤ◌, ◌*ℤ◌, None, Ok, Err, Result}
+use Rattle.std.specs.List.{zip}
 use Rattle.hourbook.specs.declared.hourfile.border.Border.{Border}
 use Rattle.hourbook.specs.declared.region.rows.Zone as zone
 use Rattle.hourbook.specs.declared.region.rows.Line.{Line}
@@ -10,9 +11,7 @@ use Rattle.hourbook.specs.Meaning.{Meaning}
 
 -- a zone for each price and net position
 abbrev pub zones_of : List ℤ → List ℤ → List zone.Zone
-zones_of [] ns = []
-zones_of (p ∷ ps) [] = []
-zones_of (p ∷ ps) (n ∷ ns) = record { price = p; position = n } ∷ zones_of ps ns
+zones_of ps ns = map (λ (p : ℤ × ℤ). record { price = p.0; position = p.1 }) (zip ps ns)
 
 -- the flow of a border is its allocated capacity
 abbrev pub border_line : List ℤ → Border → Line
@@ -25,7 +24,7 @@ border_line ps b = record {
   spread = price_at ps b.far -ℤ price_at ps b.near;
 }
 
--- without a flaw: the zones, and a line for each border; no hub
-abbrev pub coordinated_means : List ℤ → List ℤ → List Border → Option Flaw → Meaning
-coordinated_means ps ns bs None = record { verdict = Ok tt; zones = zones_of ps ns; lines = map (border_line ps) bs; hub_price = None }
-coordinated_means ps ns bs (Some f) = record { verdict = Err f; zones = []; lines = []; hub_price = None }
+-- where the verdict is that the tables are sound: the zones, and a line for each border; no hub
+abbrev pub coordinated_means : List ℤ → List ℤ → List Border → Result (Unit {0}) Flaw → Meaning
+coordinated_means ps ns bs (Ok _) = record { verdict = Ok tt; zones = zones_of ps ns; lines = map (border_line ps) bs; hub_price = None }
+coordinated_means ps ns bs (Err f) = record { verdict = Err f; zones = []; lines = []; hub_price = None }

@@ -1,5 +1,5 @@
 -- One hour in an empty book.
-use Rattle.std.specs.Prelude.{◌≡◌, ℕ, List, vec_items, Option}
+use Rattle.std.specs.Prelude.{◌≡◌, ℕ, List, vec_items, Result}
 use Rattle.hourbook.specs.declared.book.fault.BookFault.TheVariants.{Settlement}
 use Rattle.hourbook.specs.declared.hour.Failure.{Failure}
 use Rattle.hourbook.specs.declared.hour.Failure.TheVariants.{Refused, Memory}
@@ -44,17 +44,17 @@ abbrev pub page_of : ℕ → List Row → Owner → List ℕ
 page_of used es owner = text owner.number used es
 
 -- what the tables of a file of the coordinated method mean, losses included
-abbrev pub hour_means : HourFile → Option Flaw → Meaning
-hour_means f flaw = losses_means (vec_items f.losses.losses) (coordinated_means (cents_of (vec_items f.prices.list)) (tenths_of (vec_items f.network.positions)) (vec_items f.network.borders) flaw)
+abbrev pub hour_means : HourFile → Result (Unit {0}) Flaw → Meaning
+hour_means f verdict = losses_means (vec_items f.losses.losses) (coordinated_means (cents_of (vec_items f.prices.list)) (tenths_of (vec_items f.network.positions)) (vec_items f.network.borders) verdict)
 
 -- the words are the statements of the file's owners, over the credits of its region
 pub record Stated (file : HourFile) (words : List ℕ) : Type 0 where
-  pub flaw : Option Flaw
-  pub judged : Judged (tenths_of (vec_items (file).network.positions)) (vec_items (file).network.borders) flaw
+  pub verdict : Result (Unit {0}) Flaw
+  pub judged : Judged (tenths_of (vec_items (file).network.positions)) (vec_items (file).network.borders) verdict
   pub used : ℕ
   pub before : List Row
   pub after : List Row
-  pub posted : Posted (hour_means file flaw) (file).ownership (file).hour used before after
+  pub posted : Posted (hour_means file verdict) (file).ownership (file).hour used before after
   pub stated : words ≡ flat_map (page_of used after) (vec_items (file).ownership.owners)
 
 -- and the file is the one that the bytes describe

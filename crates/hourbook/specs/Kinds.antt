@@ -1,10 +1,6 @@
 -- The kind of a record.
-use Rattle.std.specs.Prelude.{Some, None, Option}
-use Rattle.hourbook.specs.declared.hourfile.«record».Header as header
 use Rattle.hourbook.specs.declared.hourfile.«record».Kind.{Kind}
 use Rattle.hourbook.specs.declared.hourfile.«record».Kind.TheVariants as kind
-use Rattle.hourbook.specs.declared.hourfile.«record».LegRecord.{LegRecord}
-use Rattle.hourbook.specs.declared.hourfile.«record».OwnerRecord.{OwnerRecord}
 use Rattle.hourbook.specs.declared.hourfile.«record».Record.{Record}
 use Rattle.hourbook.specs.declared.hourfile.«record».Record.TheVariants.{Header, Zone, Border, Leg, Factor, Loss, Owner, End}
 
@@ -17,33 +13,3 @@ kind_of (Factor x) = kind.Factor
 kind_of (Loss x) = kind.Loss
 kind_of (Owner x) = kind.Owner
 kind_of End = kind.End
-
-abbrev pub header_in : Record → Option header.Header
-header_in (Header x) = Some x
-header_in (Zone x) = None
-header_in (Border x) = None
-header_in (Leg x) = None
-header_in (Factor x) = None
-header_in (Loss x) = None
-header_in (Owner x) = None
-header_in End = None
-
-abbrev pub leg_in : Record → Option LegRecord
-leg_in (Header x) = None
-leg_in (Zone x) = None
-leg_in (Border x) = None
-leg_in (Leg x) = Some x
-leg_in (Factor x) = None
-leg_in (Loss x) = None
-leg_in (Owner x) = None
-leg_in End = None
-
-abbrev pub owner_in : Record → Option OwnerRecord
-owner_in (Header x) = None
-owner_in (Zone x) = None
-owner_in (Border x) = None
-owner_in (Leg x) = None
-owner_in (Factor x) = None
-owner_in (Loss x) = None
-owner_in (Owner x) = Some x
-owner_in End = None

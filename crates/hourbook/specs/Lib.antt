@@ -1,4 +1,5 @@
 pub mod FileFaults
+pub mod Notices
 pub mod Rows
 pub mod Owners
 pub mod Legs

@@ -1,6 +1,5 @@
 -- What a region means, and the limits that every region keeps.
-use Rattle.std.specs.Prelude.{◌≡◌, ℕ, ◌≤◌, List, length, ℤ, pos, negsuc, ◌-ℤ◌, ◌≤ℤ◌, Some, Option, Result, unsigned_abs}
-use Rattle.std.specs.List.{slice_get}
+use Rattle.std.specs.Prelude.{◌≤◌, List, length, ℤ, pos, negsuc, ◌-ℤ◌, ◌≤ℤ◌, Option, Result, All, unsigned_abs}
 use Rattle.hourbook.specs.declared.region.rows.Zone.{Zone}
 use Rattle.hourbook.specs.declared.region.rows.Line.{Line}
 use Rattle.hourbook.specs.declared.region.fault.Flaw.{Flaw}
@@ -30,5 +29,5 @@ pub record LineBounded (l : Line) : Type 0 where
 pub record Bounded (m : Meaning) : Type 0 where
   pub few_zones : length m.zones ≤ 16
   pub few_lines : length m.lines ≤ 64
-  pub each_zone : (k : ℕ) (z : Zone) → slice_get m.zones k ≡ Some z → ZoneBounded z
-  pub each_line : (k : ℕ) (l : Line) → slice_get m.lines k ≡ Some l → LineBounded l
+  pub each_zone : All ZoneBounded m.zones
+  pub each_line : All LineBounded m.lines

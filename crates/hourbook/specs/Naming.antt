@@ -1,5 +1,6 @@
 -- What a record may name, after the records before it.
-use Rattle.std.specs.Prelude.{◌≡◌, ℕ, ◌+◌, ◌-◌, ◌<◌, ◌≤◌, Bool, true, false, List, [], replicate, ◌≢◌, slice_index, slice_index_or, slice_set}
+use Rattle.std.specs.Prelude.{◌≡◌, ◌∷◌, ◌++◌, ℕ, ◌-◌, ◌<◌, ◌≤◌, Bool, true, false, List, [], replicate, ◌≢◌, slice_index, slice_index_or, slice_set}
+use Rattle.arrayvec.specs.ArrayVec.{array_vec_len}
 use Rattle.hourbook.specs.declared.hourfile.census.Census.{Census}
 use Rattle.hourbook.specs.declared.hourfile.fault.FileFault.{FileFault}
 use Rattle.hourbook.specs.declared.hourfile.fault.FileFault.TheVariants.{Name}
@@ -19,7 +20,7 @@ census_lines c = lines_of c.method c.zones c.borders
 
 -- before the first record
 abbrev pub none_named : Census → Names
-none_named c = record { census = c; legs = 0; lines = replicate 64 0; factors = replicate 64 (replicate 16 false); losses = replicate 64 false }
+none_named c = record { census = c; lines = record { items = [] }; factors = replicate 64 (replicate 16 false); losses = replicate 64 false }
 
 -- two zones of the file
 abbrev pub BorderNamed : Census → BorderRecord → Type 0
@@ -27,10 +28,10 @@ BorderNamed c b = Numbered c.zones b.near × Numbered c.zones b.far × (b.near �
 
 -- a line of the file
 abbrev pub LegNamed : Names → LegRecord → Type 0
-LegNamed n l = (n.legs < n.census.legs) × Numbered (census_lines n.census) l.line
+LegNamed n l = (array_vec_len n.lines < n.census.legs) × Numbered (census_lines n.census) l.line
 
 abbrev pub leg_noted : Names → LegRecord → Names
-leg_noted n l = record { census = n.census; legs = n.legs + 1; lines = slice_set n.lines n.legs l.line; factors = n.factors; losses = n.losses }
+leg_noted n l = record { census = n.census; lines = record { items = n.lines.items ++ l.line ∷ [] }; factors = n.factors; losses = n.losses }
 
 abbrev pub factor_seen : Names → FactorRecord → Bool
 factor_seen n f = slice_index_or (slice_index_or n.factors (f.leg - 1) []) (f.zone - 1) false
@@ -41,18 +42,18 @@ FactorNamed n f =
     (n.census.method ≡ FlowBased)
     × Numbered n.census.legs f.leg
     × Numbered n.census.zones f.zone
-    × (slice_index n.lines (f.leg - 1) ≤ n.census.borders)
+    × (slice_index n.lines.items (f.leg - 1) ≤ n.census.borders)
     × (factor_seen n f ≡ false)
 
 abbrev pub factor_noted : Names → FactorRecord → Names
-factor_noted n f = record { census = n.census; legs = n.legs; lines = n.lines; factors = slice_set n.factors (f.leg - 1) (slice_set (slice_index_or n.factors (f.leg - 1) []) (f.zone - 1) true); losses = n.losses }
+factor_noted n f = record { census = n.census; lines = n.lines; factors = slice_set n.factors (f.leg - 1) (slice_set (slice_index_or n.factors (f.leg - 1) []) (f.zone - 1) true); losses = n.losses }
 
 -- a line of the file, and once only
 abbrev pub LossNamed : Names → LossRecord → Type 0
 LossNamed n l = Numbered (census_lines n.census) l.line × (slice_index_or n.losses (l.line - 1) false ≡ false)
 
 abbrev pub loss_noted : Names → LossRecord → Names
-loss_noted n l = record { census = n.census; legs = n.legs; lines = n.lines; factors = n.factors; losses = slice_set n.losses (l.line - 1) true }
+loss_noted n l = record { census = n.census; lines = n.lines; factors = n.factors; losses = slice_set n.losses (l.line - 1) true }
 
 abbrev pub Named : Names → Record → Type 0
 Named n (Header x) = Unit {0}

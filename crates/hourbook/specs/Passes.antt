@@ -1,5 +1,5 @@
 -- What a pass over the records of an hour file finds.
-use Rattle.std.specs.Prelude.{◌≡◌, ℕ, ◌+◌, ◌<◌, List, [], ◌∷◌, ◌++◌, length}
+use Rattle.std.specs.Prelude.{fold, ◌≡◌, ℕ, ◌+◌, ◌<◌, List, [], ◌∷◌, ◌++◌, length}
 use Rattle.std.specs.List.{flat_map}
 use Rattle.hourbook.specs.declared.hourfile.«record».Record.{Record}
 use Rattle.hourbook.specs.declared.hourfile.fault.FileFault.{FileFault}
@@ -33,6 +33,14 @@ pub record FirstOut (P : List Record → Type 0) (bytes : List ℕ) (p : ℕ) : 
   pub held : P before
   pub out : P (before ++ (here ∷ [])) → ⊥
   pub place : p ≡ length before + 1
+
+-- all records pass from s on, and lead to the last state
+abbrev pub KeptTo : {S : Type 0} → (S → Record → Type 0) → (S → Record → S) → S → List ℕ → S → Type 0
+KeptTo passes after s bytes last = Passed (λ rs. AllInTurn passes after s rs × (fold after s rs ≡ last)) bytes
+
+-- the fault is that of the first record that does not pass
+abbrev pub BrokenAt : {S : Type 0} → (S → Record → Type 0) → (S → Record → S) → (ℕ → FileFault) → S → List ℕ → FileFault → Type 0
+BrokenAt passes after fault s bytes e = (p : ℕ) × (e ≡ fault p) × FirstOut (AllInTurn passes after s) bytes p
 
 -- record p is the first that is none: those before it stand whole, and at it bytes are left but no whole record
 pub record UnreadAt (bytes : List ℕ) (p : ℕ) : Type 0 where

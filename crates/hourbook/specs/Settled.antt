@@ -1,6 +1,6 @@
 -- What settling a region gives: when it refuses, and what it writes.
-use Rattle.std.specs.Prelude.{◌≡◌, ℕ, suc, ◌*◌, ◌≤◌, cond, List, ◌++◌, map, length, ℤ, pos, negsuc, Ok, Err, vec_items, Result, ◌==◌, nat_lt, unsigned_abs}
-use Rattle.sharing.specs.Shares.{total, shares}
+use Rattle.std.specs.Prelude.{sum, ◌≡◌, ℕ, suc, ◌*◌, ◌≤◌, cond, List, ◌++◌, map, length, ℤ, pos, negsuc, Ok, Err, vec_items, Result, ◌==◌, nat_lt, unsigned_abs}
+use Rattle.sharing.specs.Shares.{shares}
 use Rattle.sharing.specs.Levels.{dealt}
 use Rattle.hourbook.specs.declared.entry.credit.Origin.{Origin}
 use Rattle.hourbook.specs.declared.entry.row.Row.{Row}
@@ -26,7 +26,7 @@ judged m lines room = and_then (λ f. Region (Unsound f)) m.verdict (λ _.
     cond (length m.lines == lines)
     (cond (nat_lt room (2 * length m.lines)) (Err Work)
     (cond (nat_lt 2000000000 (unsigned_abs (income_of m))) (Err Limit)
-    (cond (nat_lt 4000000000 (total (weights m))) (Err Limit)
+    (cond (nat_lt 4000000000 (sum (weights m))) (Err Limit)
     (Ok (income_of m)))))
     (Err Lines))
 
@@ -36,7 +36,7 @@ pub record Accepted (m : Meaning) (count size : ℕ) (income : ℤ) : Type 0 whe
   pub lines : length m.lines ≡ count
   pub room : 2 * length m.lines ≤ size
   pub small : unsigned_abs income ≤ 2000000000
-  pub light : total (weights m) ≤ 4000000000
+  pub light : sum (weights m) ≤ 4000000000
 
 -- what is shared over the lines: an income, and nothing where it is negative
 abbrev pub credit : ℤ → ℕ

@@ -1,6 +1,5 @@
 -- Signed sums.
-use Rattle.std.specs.Prelude.{List, [], ◌∷◌, ℤ, pos, ◌+ℤ◌}
+use Rattle.std.specs.Prelude.{List, ℤ, pos, ◌+ℤ◌, fold}
 
 abbrev pub sum_z : List ℤ → ℤ
-sum_z [] = pos 0
-sum_z (z ∷ zs) = z +ℤ sum_z zs
+sum_z zs = fold ◌+ℤ◌ (pos 0) zs

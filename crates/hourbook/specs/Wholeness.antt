@@ -3,31 +3,19 @@ use Rattle.std.specs.Prelude.{Some, None, Option, ◌≡◌, ℕ, ◌-◌, ◌<�
 use Rattle.hourbook.specs.declared.hourfile.fault.FileFault.{FileFault}
 use Rattle.hourbook.specs.declared.hourfile.fault.FileFault.TheVariants.{Contribution, Keys}
 use Rattle.hourbook.specs.declared.hourfile.«record».Record.{Record}
-use Rattle.hourbook.specs.declared.hourfile.«record».Record.TheVariants.{Header, Zone, Border, Leg, Factor, Loss, Owner, End}
+use Rattle.hourbook.specs.declared.hourfile.«record».Record.TheVariants.{Leg, Owner}
 use Rattle.hourbook.specs.Numbering.{Numbered}
 use Rattle.hourbook.specs.Passes.{Passed}
 
 -- what a record contributes to line n
 abbrev pub contribution_to : ℕ → Record → ℕ
-contribution_to n (Header x) = 0
-contribution_to n (Zone x) = 0
-contribution_to n (Border x) = 0
 contribution_to n (Leg x) = cond (x.line == n) x.contribution 0
-contribution_to n (Factor x) = 0
-contribution_to n (Loss x) = 0
-contribution_to n (Owner x) = 0
-contribution_to n End = 0
+contribution_to n _ = 0
 
 -- how much of leg n a record gives to an owner
 abbrev pub key_to : ℕ → Record → ℕ
-key_to n (Header x) = 0
-key_to n (Zone x) = 0
-key_to n (Border x) = 0
-key_to n (Leg x) = 0
-key_to n (Factor x) = 0
-key_to n (Loss x) = 0
 key_to n (Owner x) = cond (x.leg == n) x.key 0
-key_to n End = 0
+key_to n _ = 0
 
 -- what a part, if there is one, gives to number n
 abbrev pub given : Option (ℕ × ℕ) → ℕ → ℕ
@@ -42,9 +30,9 @@ SumsOf f bytes sums = Passed (λ rs. (n : ℕ) → Numbered 64 n → slice_index
 abbrev pub AllAddUp : (ℕ → Record → ℕ) → (ℕ → Type 0) → List ℕ → ℕ → Type 0
 AllAddUp f P bytes count = Passed (λ rs. (n : ℕ) → Numbered count n → P (sum_by (f n) rs)) bytes
 
--- l is the first of so many numbers whose sum is not as P says
-abbrev pub FirstShort : (ℕ → Record → ℕ) → (ℕ → Type 0) → List ℕ → ℕ → ℕ → Type 0
-FirstShort f P bytes count l = Numbered count l
+-- the fault is that of the first of so many numbers whose sum is not as P says
+abbrev pub FirstShort : (ℕ → Record → ℕ) → (ℕ → Type 0) → (ℕ → FileFault) → List ℕ → ℕ → FileFault → Type 0
+FirstShort f P fault bytes count e = (l : ℕ) × (e ≡ fault l) × Numbered count l
     × Passed (λ rs. (P (sum_by (f l) rs) → ⊥) × ((n : ℕ) → 1 ≤ n → n < l → P (sum_by (f n) rs))) bytes
 
 -- rule 6 is kept by all of so many lines
@@ -53,7 +41,7 @@ AllContribute = AllAddUp contribution_to (λ s. 0 < s)
 
 -- the fault tells the first line without a leg that contributes
 abbrev pub NoneContributes : List ℕ → ℕ → FileFault → Type 0
-NoneContributes bytes lines e = (l : ℕ) × (e ≡ Contribution l) × FirstShort contribution_to (λ s. 0 < s) bytes lines l
+NoneContributes = FirstShort contribution_to (λ s. 0 < s) Contribution
 
 -- rule 7 is kept by all of so many legs
 abbrev pub AllOwned : List ℕ → ℕ → Type 0
@@ -61,4 +49,4 @@ AllOwned = AllAddUp key_to (λ s. s ≡ 10000)
 
 -- the fault tells the first leg whose keys add to something else
 abbrev pub NotOwned : List ℕ → ℕ → FileFault → Type 0
-NotOwned bytes legs e = (l : ℕ) × (e ≡ Keys l) × FirstShort key_to (λ s. s ≡ 10000) bytes legs l
+NotOwned = FirstShort key_to (λ s. s ≡ 10000) Keys

@@ -141,6 +141,7 @@ fn pages(
     ensures { IfOk result (λ t. t.items ≡ flat_map (page_of book.now.used memory.now) owners.now) }
 {
     let mut text = Vec::new(heap);
+    // the book's calls write into lent memory
     let mut page = vec![in heap; 0u8; PAGE]?;
     for owner in owners {
         append_page(&mut text, book, memory, *owner, &mut page)?;
@@ -175,6 +176,8 @@ mod tests {
         };
         let notice = fault.notice();
         assert_eq!(rt; (notice.number, notice.place), (8, 0));
+        let line = format!(in rt.alloc(); "{fault}")?;
+        assert_eq!(rt; line.as_str(), "R 8 0");
         let flow_based =
             b"H\x00\x00\x00\x07\x01\x01Z\x00\x00\x03\xe8\x00\x00\x00\x00L\x01\x00\x01O\x01\x01\x27\x10E";
         assert_eq!(rt;

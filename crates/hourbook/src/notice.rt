@@ -1,8 +1,11 @@
 //! The office's notice of a refusal.
+ghost use Rattle.std.specs.Prelude.{Some};
+ghost use Rattle.hourbook.specs.Notices.{refusal_line};
+
 use std::fmt;
 
-// The number of the refusal, the layer that refuses, from the file as 1 to the book as 4, and where the file is at
-// fault: a record counted from 1, a line or a leg, or 0 where there is none.
+// In the office's numbers: the refusal, the layer that refuses, from the file as 1 to the book as 4, and where the file
+// is at fault: a record counted from 1, a line or a leg, or 0 where there is none.
 #[derive(Clone, Copy, Debug, PartialEq, Eq, Hash)]
 pub(crate) struct Notice {
     pub(crate) number: u8,
@@ -11,6 +14,8 @@ pub(crate) struct Notice {
 }
 
 impl fmt::Display for Notice {
+    ghost output = { λ n. Some (refusal_line n) };
+
     fn fmt<W: fmt::Write>(&self, f: &mut fmt::Formatter<W>) -> fmt::Result {
         write!(f, "R {} {}", self.number, self.place)
     }

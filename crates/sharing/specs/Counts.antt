@@ -1,6 +1,6 @@
 -- What the code keeps of how rows count.
-use Rattle.std.specs.Prelude.{◌≡◌, ℕ, ◌≤◌, cond, List, ◌==◌}
-use Rattle.sharing.specs.Shares.{total, counts_as, whole}
+use Rattle.std.specs.Prelude.{sum, ◌≡◌, ℕ, ◌≤◌, cond, List, ◌==◌}
+use Rattle.sharing.specs.Shares.{counts_as, whole}
 use Rattle.sharing.specs.declared.counting.Counting.{Counting}
 use Rattle.sharing.specs.declared.counting.Counting.TheVariants.{Equal, ByWeight}
 
@@ -20,6 +20,6 @@ counts_with (ByWeight sum) w = w
 
 -- so count rows with the weights ws, whose counted weights keep their limit
 pub record Counts (ws : List ℕ) (c : Counting) : Type 0 where
-  pub each : (w : ℕ) → counts_with c w ≡ counts_as (total ws) w
-  pub sum : all_count c ≡ whole ws
+  pub each : (w : ℕ) → counts_with c w ≡ counts_as (sum ws) w
+  pub all : all_count c ≡ whole ws
   pub light : all_count c ≤ 4000000000

@@ -1,7 +1,7 @@
 -- What holds of every sharing of an amount t over rows with the weights ws. Assumes nothing.
-use Rattle.std.specs.Prelude.{◌≡◌, ℕ, ◌+◌, ◌-◌, ◌*◌, ◌/◌, ◌<◌, ◌≤◌, List, [], ◌∷◌, map, length, slice_index}
+use Rattle.std.specs.Prelude.{sum, ◌≡◌, ℕ, ◌+◌, ◌-◌, ◌*◌, ◌/◌, ◌<◌, ◌≤◌, List, [], ◌∷◌, map, length, slice_index}
 use Rattle.std.specs.List.{AllByRecursion}
-use Rattle.sharing.specs.Shares.{total, counted, cumulative, whole, shares}
+use Rattle.sharing.specs.Shares.{counted, cumulative, whole, shares}
 use Rattle.sharing.specs.Levels.{shared_on}
 
 -- the share of row k, counted from 1, is ⌊T × C(k) / C(n)⌋ − ⌊T × C(k−1) / C(n)⌋
@@ -15,7 +15,7 @@ OneForEachRow t ws = length (shares t ws) ≡ length ws
 
 -- the shares add to the amount where there is a row
 abbrev pub AddsToTheAmount : ℕ → List ℕ → Type 0
-AddsToTheAmount t ws = 0 < length ws → total (shares t ws) ≡ t
+AddsToTheAmount t ws = 0 < length ws → sum (shares t ws) ≡ t
 
 -- each share is less than 1 from T × weight / C(n), by the counted weight
 abbrev pub NearItsProportion : ℕ → List ℕ → Type 0
@@ -29,7 +29,7 @@ WithinItsCountedWeight t ws = t ≤ whole ws → (k : ℕ) → k < length ws →
 
 -- where the amount is at most the sum of the weights as they are, no share exceeds its weight
 abbrev pub WithinItsWeight : ℕ → List ℕ → Type 0
-WithinItsWeight t ws = t ≤ total ws → (k : ℕ) → k < length ws → slice_index (shares t ws) k ≤ slice_index ws k
+WithinItsWeight t ws = t ≤ sum ws → (k : ℕ) → k < length ws → slice_index (shares t ws) k ≤ slice_index ws k
 
 -- two rows of equal weight differ by 1 at most
 abbrev pub AlikeByEqualWeight : ℕ → List ℕ → Type 0
@@ -38,7 +38,7 @@ AlikeByEqualWeight t ws = (i j : ℕ) → i < length ws → j < length ws → sl
 
 -- a row of weight 0 among rows that are not all 0 receives 0
 abbrev pub NothingByWeight0 : ℕ → List ℕ → Type 0
-NothingByWeight0 t ws = 0 < total ws → (k : ℕ) → k < length ws → slice_index ws k ≡ 0 → slice_index (shares t ws) k ≡ 0
+NothingByWeight0 t ws = 0 < sum ws → (k : ℕ) → k < length ws → slice_index ws k ≡ 0 → slice_index (shares t ws) k ≡ 0
 
 pub record Fair (t : ℕ) (ws : List ℕ) : Type 0 where
   pub rounded : IsBetweenRoundedSums t ws
@@ -59,8 +59,8 @@ abbrev pub ThreeLevelsAddToTheAmount : Type 0
 ThreeLevelsAddToTheAmount = (t : ℕ) (ws : List ℕ) (vs us : List (List ℕ))
     → SomeRow ws
     → length vs ≡ length ws → AllByRecursion SomeRow vs
-    → length us ≡ total (map length vs) → AllByRecursion SomeRow us
-    → total (shared_on (shared_on (shares t ws) vs) us) ≡ t
+    → length us ≡ sum (map length vs) → AllByRecursion SomeRow us
+    → sum (shared_on (shared_on (shares t ws) vs) us) ≡ t
 
 abbrev pub Figures : Type 0
 Figures = (shares 1000 (5000 ∷ 2785 ∷ 2215 ∷ []) ≡ 500 ∷ 278 ∷ 222 ∷ [])

@@ -1,10 +1,5 @@
 -- How an amount is shared over rows by their weights, so that no cent is lost. Assumes nothing.
-use Rattle.std.specs.Prelude.{ℕ, ◌+◌, ◌-◌, ◌*◌, ◌/◌, cond, List, [], ◌∷◌, map, take, ◌==◌}
-
--- the sum of a list
-abbrev pub total : List ℕ → ℕ
-total [] = 0
-total (w ∷ ws) = w + total ws
+use Rattle.std.specs.Prelude.{sum, ℕ, ◌+◌, ◌-◌, ◌*◌, ◌/◌, cond, List, [], ◌∷◌, map, take, ◌==◌}
 
 -- what a weight counts as where the weights add to sum: each as 1 where all are 0
 abbrev pub counts_as : ℕ → ℕ → ℕ
@@ -12,15 +7,15 @@ counts_as sum w = cond (sum == 0) 1 w
 
 -- the counted weights
 abbrev pub counted : List ℕ → List ℕ
-counted ws = map (counts_as (total ws)) ws
+counted ws = map (counts_as (sum ws)) ws
 
 -- C(k): the sum of the first k counted weights
 abbrev pub cumulative : List ℕ → ℕ → ℕ
-cumulative ws k = total (take k (counted ws))
+cumulative ws k = sum (take k (counted ws))
 
 -- C(n): the sum of all counted weights
 abbrev pub whole : List ℕ → ℕ
-whole ws = total (counted ws)
+whole ws = sum (counted ws)
 
 -- ⌊T × b / n⌋ − ⌊T × a / n⌋: the share of the row that brings the running sum from a to b, where all weigh n
 abbrev pub part : ℕ → ℕ → ℕ → ℕ → ℕ

@@ -1,6 +1,5 @@
 //! The rows that an amount is shared over.
-ghost use Rattle.std.specs.Prelude.{◌≡◌, ℕ, ◌+◌, ◌<◌, ◌≤◌, map, MatchOption};
-ghost use Rattle.sharing.specs.Shares.{total};
+ghost use Rattle.std.specs.Prelude.{sum, ◌≡◌, ℕ, ◌+◌, ◌<◌, ◌≤◌, map, MatchOption};
 
 // A row that tells its weight. Every such row can be shared over.
 pub trait Weighted {
@@ -32,7 +31,7 @@ fn added(sum: u64, weight: u64) -> Option<u64>
 // The sum of the weights, unless it is above `LARGEST_WEIGHT_SUM`.
 #[tactic(auto, using(crate::proofs::Totals::total_next))]
 pub fn weigh<R: Weighted>(rows: &[R]) -> Option<u64>
-    ensures { MatchOption result (4000000000 < total (map R.weighs rows.now)) (λ n. (n ≡ total (map R.weighs rows.now)) × (n ≤ 4000000000)) }
+    ensures { MatchOption result (4000000000 < sum (map R.weighs rows.now)) (λ n. (n ≡ sum (map R.weighs rows.now)) × (n ≤ 4000000000)) }
 {
     let mut sum = 0;
     for row in rows {

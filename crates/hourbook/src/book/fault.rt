@@ -1,6 +1,7 @@
 //! Why a call of the book is refused.
-ghost use Rattle.std.specs.Prelude.{◌≡◌};
+ghost use Rattle.std.specs.Prelude.{◌≡◌, Some};
 ghost use Rattle.hourbook.specs.BookFaults.{notice_of};
+ghost use Rattle.hourbook.specs.Notices.{refusal_line};
 ghost use Rattle.hourbook.specs.declared.book.fault.BookFault.TheVariants.{Settlement};
 ghost use Rattle.hourbook.specs.declared.region.fault.RegionFault.TheVariants.{File};
 ghost use Rattle.hourbook.specs.declared.settlement.fault.SettlementFault.TheVariants.{Region};
@@ -54,6 +55,8 @@ impl BookFault {
 }
 
 impl fmt::Display for BookFault {
+    ghost output = { λ f. Some (refusal_line (notice_of f)) };
+
     fn fmt<W: fmt::Write>(&self, f: &mut fmt::Formatter<W>) -> fmt::Result {
         self.notice().fmt(f)
     }

@@ -8,7 +8,7 @@ use crate::hourfile::record::Header;
 use crate::hourfile::tally::Tally;
 
 // 1 to 16 zones, at most 48 borders and 64 legs.
-#[derive(Clone, Copy)]
+#[derive(Clone, Copy, Debug, PartialEq, Eq)]
 pub(crate) struct Census {
     pub(crate) hour: u32,
     pub(crate) region: u8,

@@ -24,7 +24,8 @@ pub(crate) struct NumberedLeg {
     pub(crate) contribution: u16,
 }
 
-// Losses stand by line, and are 0 where none is named.
+// Prices are kept beside the net positions and not with them: they are a table of their own, so that a zone can later
+// be tried at another price. Losses stand by line, and are 0 where none is named.
 #[derive(Drop)]
 pub(crate) struct Gathered {
     pub(crate) prices: Vec<Price>,
@@ -92,8 +93,7 @@ impl Gathered {
             place,
         })?;
         self.prices.push(price)?;
-        self.positions.push(position)?;
-        Ok(())
+        Ok(self.positions.push(position)?)
     }
 
     fn take_border(&mut self, record: BorderRecord, place: usize) -> Result<(), FileFault>
@@ -108,12 +108,13 @@ impl Gathered {
     {
         let number = u8::try_from(self.legs.len() + 1).map_err(|_| FileFault::Count { place })?;
         let LegRecord { line, contribution } = leg;
-        self.legs.push(NumberedLeg {
-            number,
-            line,
-            contribution,
-        })?;
-        Ok(())
+        Ok(
+            self.legs.push(NumberedLeg {
+                number,
+                line,
+                contribution,
+            })?,
+        )
     }
 
     fn take_loss(&mut self, loss: LossRecord, place: usize) -> Result<(), FileFault>

@@ -16,7 +16,7 @@ ghost use Rattle.hourbook.specs.Passes.{AllRead, Unreads};
 ghost use Rattle.hourbook.specs.Ranging.{OutOfRange, Ranged};
 ghost use Rattle.hourbook.specs.Sequence.{Disordered, WellOrdered};
 ghost use Rattle.hourbook.specs.Tallies.{Furnished, WithinLimits};
-ghost use Rattle.hourbook.specs.Wholeness.{AllContribute, AllOwned, NoneContributes, NotOwned, SumsOf, contribution_to, key_to};
+ghost use Rattle.hourbook.specs.Wholeness.{AllContribute, AllOwned, NoneContributes, NotOwned};
 
 use crate::hourfile::census::Census;
 use crate::hourfile::fault::FileFault;
@@ -61,7 +61,7 @@ fn whole(bytes: &[u8]) -> Result<(), FileFault>
 {
     let mut records = Records::of(bytes);
     let mut read = 0;
-    // Not `by_ref().count()`, whose contract says nothing of what it leaves unread.
+    // Not `by_ref().count()`, whose contract says nothing of what it leaves unread: the proof does not close.
     while let Some(_) = records.next() {
         read += 1;
     }
@@ -86,7 +86,10 @@ fn order(bytes: &[u8]) -> Result<Header, FileFault>
 fn leading_header(bytes: &[u8]) -> Option<Header>
     ensures { MatchOption result ((h : Headed) → Begins bytes.now (RecordHeader h) → ⊥) (λ h. Begins bytes.now (RecordHeader h)) }
 {
-    first_record(bytes)?.header()
+    match first_record(bytes)? {
+        Record::Header(header) => Some(header),
+        _ => None,
+    }
 }
 
 // No kind comes too often, and none is missing.
@@ -106,9 +109,7 @@ fn ranges(bytes: &[u8], header: Header) -> Result<Method, FileFault>
     ensures rule { MatchResult result (Ranged bytes.now header) (OutOfRange bytes.now header) }
     ensures number { MatchResult result (λ m. method_of header.method ≡ Some m) (λ e. number_of e ≡ 4) }
 {
-    let Some(method) = header.method() else {
-        return Err(FileFault::Range { place: 1 });
-    };
+    let method = header.method().ok_or(FileFault::Range { place: 1 })?;
     follow(bytes, Ranges { method })?;
     Ok(method)
 }
@@ -145,10 +146,7 @@ mod tests {
     use std::test::Fail;
 
     fn fault(bytes: &[u8]) -> Option<FileFault> {
-        match judge(bytes) {
-            Ok(_) => None,
-            Err(fault) => Some(fault),
-        }
+        judge(bytes).err()
     }
 
     // A flow-based file: its zones at one price, then the rest.

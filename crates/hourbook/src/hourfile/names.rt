@@ -1,5 +1,6 @@
 //! Which zones, lines and legs an hour file names.
-ghost use Rattle.std.specs.Prelude.{◌≡◌, true, false, Decides};
+ghost use Rattle.std.specs.Prelude.{◌≡◌, ◌↔◌, IsTrue};
+ghost use Rattle.std.specs.Bool.{OnFalse, OnTrue};
 ghost use Rattle.hourbook.specs.Naming.{BorderNamed, FactorNamed, LegNamed, LossNamed, Named, factor_noted, leg_noted, loss_noted, none_named, noted};
 ghost use Rattle.hourbook.specs.Numbering.{Numbered};
 ghost use Rattle.hourbook.specs.declared.hourfile.fault.FileFault.TheVariants.{Name};
@@ -9,23 +10,23 @@ use crate::hourfile::fault::FileFault;
 use crate::hourfile::method::Method;
 use crate::hourfile::record::{BorderRecord, FactorRecord, LegRecord, LossRecord, Record};
 use crate::hourfile::rule::Rule;
+use arrayvec::ArrayVec;
 
-// What the records so far have said: the line of each of at most 64 legs, by leg and zone which factors have come,
-// and by line which losses.
+// What the records so far have said: the line of each leg, by leg and zone which factors have come, and by line which
+// losses. The tables stand in the struct, since judging allocates nothing.
 #[derive(Drop)]
 pub(crate) struct Names {
     census: Census,
-    legs: u8,
-    lines: [u8; 64],
+    lines: ArrayVec<u8, 64>,
     factors: [[bool; 16]; 64],
     losses: [bool; 64],
 }
 
 // Whether n is one of so many, numbered from 1.
 pub(crate) fn is_numbered(n: u8, count: u8) -> bool
-    ensures { Decides result (Numbered count n) }
+    ensures { IsTrue result ↔ Numbered count n }
 {
-    n >= 1 && n <= count
+    (1..=count).contains(&n)
 }
 
 impl Names {
@@ -34,15 +35,14 @@ impl Names {
     {
         Names {
             census,
-            legs: 0,
-            lines: [0; 64],
+            lines: ArrayVec::new(),
             factors: [[false; 16]; 64],
             losses: [false; 64],
         }
     }
 
     fn names_zones(&self, border: &BorderRecord) -> bool
-        ensures { Decides result (BorderNamed self.now.census border.now) }
+        ensures { IsTrue result ↔ BorderNamed self.now.census border.now }
     {
         let zones = self.census.zones;
         is_numbered(border.near, zones)
@@ -52,23 +52,24 @@ impl Names {
 
     // The census counts every leg, so that none comes past it.
     fn note_leg(&mut self, leg: &LegRecord) -> bool
-        ensures test { Decides result (LegNamed self.old leg.now) }
-        ensures after { result ≡ true → self.new ≡ leg_noted self.old leg.now }
-        ensures same { result ≡ false → self.new ≡ self.old }
+        ensures test { IsTrue result ↔ LegNamed self.old leg.now }
+        ensures yes { OnTrue result (self.new ≡ leg_noted self.old leg.now) }
+        ensures no { OnFalse result (self.new ≡ self.old) }
     {
-        if self.legs >= self.census.legs || !is_numbered(leg.line, self.census.lines()) {
+        if self.lines.len() >= usize::from(self.census.legs)
+            || !is_numbered(leg.line, self.census.lines())
+        {
             return false;
         }
-        self.lines[self.legs as usize] = leg.line;
-        self.legs += 1;
+        self.lines.push(leg.line);
         true
     }
 
     // An external line takes no factor, and a leg none twice for one zone.
     fn note_factor(&mut self, factor: &FactorRecord) -> bool
-        ensures test { Decides result (FactorNamed self.old factor.now) }
-        ensures after { result ≡ true → self.new ≡ factor_noted self.old factor.now }
-        ensures same { result ≡ false → self.new ≡ self.old }
+        ensures test { IsTrue result ↔ FactorNamed self.old factor.now }
+        ensures yes { OnTrue result (self.new ≡ factor_noted self.old factor.now) }
+        ensures no { OnFalse result (self.new ≡ self.old) }
     {
         let census = self.census;
         if census.method != Method::FlowBased
@@ -77,9 +78,13 @@ impl Names {
         {
             return false;
         }
-        let leg = factor.leg as usize - 1;
-        let zone = factor.zone as usize - 1;
-        if self.lines[leg] > census.borders || self.factors[leg][zone] {
+        let leg = usize::from(factor.leg) - 1;
+        let zone = usize::from(factor.zone) - 1;
+        let external = self
+            .lines
+            .get(leg)
+            .is_some_and(|line| *line > census.borders);
+        if external || self.factors[leg][zone] {
             return false;
         }
         self.factors[leg][zone] = true;
@@ -87,14 +92,14 @@ impl Names {
     }
 
     fn note_loss(&mut self, loss: &LossRecord) -> bool
-        ensures test { Decides result (LossNamed self.old loss.now) }
-        ensures after { result ≡ true → self.new ≡ loss_noted self.old loss.now }
-        ensures same { result ≡ false → self.new ≡ self.old }
+        ensures test { IsTrue result ↔ LossNamed self.old loss.now }
+        ensures yes { OnTrue result (self.new ≡ loss_noted self.old loss.now) }
+        ensures no { OnFalse result (self.new ≡ self.old) }
     {
         if !is_numbered(loss.line, self.census.lines()) {
             return false;
         }
-        let line = loss.line as usize - 1;
+        let line = usize::from(loss.line) - 1;
         if self.losses[line] {
             return false;
         }
@@ -103,6 +108,7 @@ impl Names {
     }
 }
 
+// A record names only what is there, and nothing twice that comes once.
 impl Rule for Names {
     ghost passes = { Named };
 

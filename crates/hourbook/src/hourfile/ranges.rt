@@ -1,5 +1,5 @@
 //! The ranges of the numbers of an hour file.
-ghost use Rattle.std.specs.Prelude.{Decides};
+ghost use Rattle.std.specs.Prelude.{◌↔◌, IsTrue};
 ghost use Rattle.hourbook.specs.Lawful.{CapacityInRange, InRange};
 ghost use Rattle.hourbook.specs.declared.hourfile.fault.FileFault.TheVariants.{Range};
 
@@ -46,26 +46,21 @@ impl Rule for Ranges {
 impl Record {
     // Whether every number of the record lies in its range, in a file of this method.
     pub(crate) fn in_range(&self, method: Method) -> bool
-        ensures { Decides result (InRange method self.now) }
+        ensures { IsTrue result ↔ InRange method self.now }
     {
         match self {
             Record::Header(header) => {
                 header.hour >= 1
-                    && header.region >= 1
-                    && header.region <= REGIONS
+                    && (1..=REGIONS).contains(&header.region)
                     && header.method().is_some()
             }
             Record::Zone(zone) => {
                 Price::try_from(zone.price).is_ok() && NetPosition::try_from(zone.position).is_ok()
             }
             Record::Border(border) => border.in_range(method),
-            Record::Factor(factor) => {
-                factor.factor >= -LARGEST_FACTOR && factor.factor <= LARGEST_FACTOR
-            }
+            Record::Factor(factor) => (-LARGEST_FACTOR..=LARGEST_FACTOR).contains(&factor.factor),
             Record::Loss(loss) => loss.loss <= LARGEST_LOSS,
-            Record::Owner(owner) => {
-                owner.owner >= 1 && owner.owner <= OWNERS && owner.key <= LARGEST_KEY
-            }
+            Record::Owner(owner) => (1..=OWNERS).contains(&owner.owner) && owner.key <= LARGEST_KEY,
             Record::Leg(_) | Record::End => true,
         }
     }
@@ -74,7 +69,7 @@ impl Record {
 impl BorderRecord {
     // The flow-based method allocates no capacity.
     fn in_range(&self, method: Method) -> bool
-        ensures { Decides result (CapacityInRange method self.now.capacity) }
+        ensures { IsTrue result ↔ CapacityInRange method self.now.capacity }
     {
         match method {
             Method::FlowBased => self.capacity == 0,

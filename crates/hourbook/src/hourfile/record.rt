@@ -2,12 +2,12 @@
 ghost use Rattle.std.specs.Prelude.{◌≡◌, ◌<◌, length, MatchOption};
 ghost use Rattle.hourbook.specs.Encoding.{Begins, encoded};
 ghost use Rattle.hourbook.specs.Format.{Whole};
-ghost use Rattle.hourbook.specs.Kinds.{header_in, kind_of, leg_in, owner_in};
+ghost use Rattle.hourbook.specs.Kinds.{kind_of};
 ghost use Rattle.hourbook.specs.Lawful.{method_of};
 
 use crate::hourfile::method::Method;
 
-#[derive(Clone, Copy)]
+#[derive(Clone, Copy, Debug, PartialEq, Eq)]
 pub(crate) struct Header {
     pub(crate) hour: u32,
     pub(crate) region: u8,
@@ -19,54 +19,50 @@ impl Header {
     pub(crate) fn method(&self) -> Option<Method>
         ensures { result ≡ method_of self.now.method }
     {
-        match self.method {
-            1 => Some(Method::FlowBased),
-            2 => Some(Method::Coordinated),
-            _ => None,
-        }
+        Method::try_from(self.method).ok()
     }
 }
 
-#[derive(Clone, Copy)]
+#[derive(Clone, Copy, Debug, PartialEq, Eq)]
 pub(crate) struct ZoneRecord {
     pub(crate) price: i32,
     pub(crate) position: i32,
 }
 
-#[derive(Clone, Copy)]
+#[derive(Clone, Copy, Debug, PartialEq, Eq)]
 pub(crate) struct BorderRecord {
     pub(crate) near: u8,
     pub(crate) far: u8,
     pub(crate) capacity: i32,
 }
 
-#[derive(Clone, Copy)]
+#[derive(Clone, Copy, Debug, PartialEq, Eq)]
 pub(crate) struct LegRecord {
     pub(crate) line: u8,
     pub(crate) contribution: u16,
 }
 
-#[derive(Clone, Copy)]
+#[derive(Clone, Copy, Debug, PartialEq, Eq)]
 pub(crate) struct FactorRecord {
     pub(crate) leg: u8,
     pub(crate) zone: u8,
     pub(crate) factor: i16,
 }
 
-#[derive(Clone, Copy)]
+#[derive(Clone, Copy, Debug, PartialEq, Eq)]
 pub(crate) struct LossRecord {
     pub(crate) line: u8,
     pub(crate) loss: u16,
 }
 
-#[derive(Clone, Copy)]
+#[derive(Clone, Copy, Debug, PartialEq, Eq)]
 pub(crate) struct OwnerRecord {
     pub(crate) leg: u8,
     pub(crate) owner: u8,
     pub(crate) key: u16,
 }
 
-#[derive(Clone, Copy)]
+#[derive(Clone, Copy, Debug, PartialEq, Eq)]
 pub(crate) enum Record {
     Header(Header),
     Zone(ZoneRecord),
@@ -78,7 +74,7 @@ pub(crate) enum Record {
     End,
 }
 
-#[derive(Clone, Copy)]
+#[derive(Clone, Copy, Debug, PartialEq, Eq)]
 pub(crate) enum Kind {
     Header,
     Zone,
@@ -103,33 +99,6 @@ impl Record {
             Record::Loss(_) => Kind::Loss,
             Record::Owner(_) => Kind::Owner,
             Record::End => Kind::End,
-        }
-    }
-
-    pub(crate) fn header(self) -> Option<Header>
-        ensures { result ≡ header_in self }
-    {
-        match self {
-            Record::Header(header) => Some(header),
-            _ => None,
-        }
-    }
-
-    pub(crate) fn leg(self) -> Option<LegRecord>
-        ensures { result ≡ leg_in self }
-    {
-        match self {
-            Record::Leg(leg) => Some(leg),
-            _ => None,
-        }
-    }
-
-    pub(crate) fn owner(self) -> Option<OwnerRecord>
-        ensures { result ≡ owner_in self }
-    {
-        match self {
-            Record::Owner(owner) => Some(owner),
-            _ => None,
         }
     }
 

@@ -1,7 +1,7 @@
 //! A rule that the records of an hour file keep one after another.
-ghost use Rattle.std.specs.Prelude.{◌≡◌, ◌↔◌, ℕ, fold, ⊤, IfOk, IsTrue, MatchResult};
+ghost use Rattle.std.specs.Prelude.{◌≡◌, ◌↔◌, ℕ, ⊤, IfOk, IsTrue, MatchResult};
 ghost use Rattle.std.specs.Bool.{OnFalse, OnTrue};
-ghost use Rattle.hourbook.specs.Passes.{AllInTurn, FirstOut, Passed};
+ghost use Rattle.hourbook.specs.Passes.{BrokenAt, KeptTo};
 ghost use Rattle.hourbook.specs.declared.hourfile.fault.FileFault.{FileFault as Fault};
 ghost use Rattle.hourbook.specs.declared.hourfile.«record».Record.{Record as AnyRecord};
 
@@ -37,7 +37,7 @@ pub(crate) trait Rule: Drop {
 // The rule after all records, or the fault of the first that it does not admit. Places count from 1.
 pub(crate) fn follow<R: Rule>(bytes: &[u8], mut rule: R) -> Result<R, FileFault>
     requires { R.ready rule }
-    ensures first { MatchResult result (λ last. Passed (λ rs. AllInTurn R.passes R.after rule rs × (fold R.after rule rs ≡ last)) bytes.now) (λ e. (p : ℕ) × (e ≡ R.fault p) × FirstOut (AllInTurn R.passes R.after rule) bytes.now p) }
+    ensures first { MatchResult result (KeptTo R.passes R.after rule bytes.now) (BrokenAt R.passes R.after R.fault rule bytes.now) }
     ensures ready { IfOk result R.ready }
 {
     for (before, record) in Records::of(bytes).enumerate() {

@@ -7,7 +7,8 @@ use crate::hourfile::names::is_numbered;
 
 const MOST: u8 = 64;
 
-// A sum may stop at the largest u16: the rules only tell 0 and 10,000 from other sums.
+// By number, in a table that allocates nothing. A sum may stop at the largest u16: the rules only tell 0 and 10,000 from
+// other sums.
 #[derive(Drop)]
 pub(crate) struct Sums {
     amounts: [u16; 64],
@@ -26,7 +27,7 @@ impl Sums {
         ensures same { (Numbered 64 number → ⊥) → self.new ≡ self.old }
     {
         if is_numbered(number, MOST) {
-            let i = number as usize - 1;
+            let i = usize::from(number) - 1;
             self.amounts[i] = self.amounts[i].saturating_add(amount);
         }
     }
@@ -36,7 +37,7 @@ impl Sums {
         ensures none { (Numbered 64 number → ⊥) → result ≡ 0 }
     {
         if is_numbered(number, MOST) {
-            self.amounts[number as usize - 1]
+            self.amounts[usize::from(number) - 1]
         } else {
             0
         }

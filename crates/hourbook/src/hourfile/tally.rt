@@ -1,5 +1,5 @@
 //! How many records of each kind an hour file has.
-ghost use Rattle.std.specs.Prelude.{◌≡◌, ◌↔◌, ◌+◌, ◌<◌, Decides, IsTrue};
+ghost use Rattle.std.specs.Prelude.{◌≡◌, ◌↔◌, ◌+◌, ◌<◌, IsTrue};
 ghost use Rattle.std.specs.Bool.{OnFalse, OnTrue};
 ghost use Rattle.hourbook.specs.Kinds.{kind_of};
 ghost use Rattle.hourbook.specs.Tallies.{Furnished, WithinLimits, added, none_yet};
@@ -18,7 +18,8 @@ const MOST_LEGS: u8 = 64;
 
 const MOST_OWNERS: u8 = 128;
 
-// Factors and losses are not counted: no leg takes two for a zone, and no line two losses.
+// Factors and losses are not counted: no leg takes two for a zone, and no line two losses. The limits are no invariant of
+// the type, since the specification also names the tally that passes one.
 #[derive(Clone, Copy, Debug, PartialEq, Eq)]
 pub(crate) struct Tally {
     pub(crate) zones: u8,
@@ -41,7 +42,7 @@ impl Tally {
 
     // Whether nothing is missing that a file of this method must have.
     pub(crate) fn suffices(&self, method: Option<Method>) -> bool
-        ensures { Decides result (Furnished self.now method) }
+        ensures { IsTrue result ↔ Furnished self.now method }
     {
         match method {
             Some(Method::Coordinated) => self.zones > 0 && self.borders > 0,

@@ -101,7 +101,7 @@ fn sums_of<R: SumRule>(bytes: &[u8]) -> Sums
 // Whether the sum of each number from 1 to the last suffices, or the fault of the first that does not.
 pub(crate) fn add_up<R: SumRule>(bytes: &[u8], last: u8) -> Result<(), FileFault>
     requires { last ≤ 64 }
-    ensures { MatchResult result (λ _. AllAddUp R.adds R.suffices bytes.now last) (λ e. (n : ℕ) × (e ≡ R.fault n) × FirstShort R.adds R.suffices bytes.now last n) }
+    ensures { MatchResult result (λ _. AllAddUp R.adds R.suffices bytes.now last) (FirstShort R.adds R.suffices R.fault bytes.now last) }
 {
     let sums = sums_of::<R>(bytes);
     for number in 1..=last {

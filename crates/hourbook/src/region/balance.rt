@@ -1,106 +1,97 @@
 //! Whether the tables of the coordinated method are sound.
-ghost use Rattle.std.specs.Prelude.{◌≡◌, ℕ, ◌+◌, ◌<◌, ◌≤◌, map, length, pos, Decides, unsigned_abs};
-ghost use Rattle.sharing.specs.Shares.{total};
+ghost use Rattle.std.specs.Prelude.{sum, ◌≡◌, ◌≤◌, map, Decides, unsigned_abs};
 ghost use Rattle.hourbook.specs.SignedSums.{sum_z};
 ghost use Rattle.hourbook.specs.Tables.{tenths_of};
-ghost use Rattle.hourbook.specs.Balance.{only, at_zone, net_capacity, Balanced, Limited, Judged};
+ghost use Rattle.hourbook.specs.Balance.{only, at_zone, net_capacity, Balanced, Judged};
 
 use crate::hourfile::border::Border;
 use crate::hourfile::network::Network;
 use crate::hourfile::position::NetPosition;
 use crate::region::fault::Flaw;
 
+// The magnitudes of sound net positions add to no more.
 const LARGEST: u64 = 1_000_000;
 
-// A capacity, where the end of its border is the zone.
-fn capacity_in(end: u8, zone: usize, capacity: i32) -> i64
-    ensures value { result ≡ only end zone capacity }
-    ensures bound { unsigned_abs result ≤ unsigned_abs capacity }
-{
-    if usize::from(end) == zone {
-        i64::from(capacity)
-    } else {
-        0
-    }
-}
-
-// What a border's capacity takes out of a zone.
-fn capacity_at(border: &Border, zone: usize) -> i64
-    ensures value { result ≡ at_zone zone border.now }
-    ensures bound { unsigned_abs result ≤ 400000 }
-{
-    let capacity = border.capacity.get();
-    capacity_in(border.near, zone, capacity) - capacity_in(border.far, zone, capacity)
-}
-
-// What all capacities take out of a zone.
-fn capacity_out(borders: &[Border], zone: usize) -> i64
-    requires { length borders.now ≤ 48 }
-    ensures { result ≡ net_capacity zone borders.now }
-{
-    let mut sum: i64 = 0;
-    for k in 0..borders.len() {
-        sum += capacity_at(&borders[k], zone);
-    }
-    sum
-}
-
-fn position_sum(positions: &[NetPosition]) -> i64
-    requires { length positions.now ≤ 16 }
-    ensures { result ≡ sum_z (tenths_of positions.now) }
-{
-    let mut sum: i64 = 0;
-    for k in 0..positions.len() {
-        sum += i64::from(positions[k].get());
-    }
-    sum
-}
-
-fn position_size(positions: &[NetPosition]) -> u64
-    requires { length positions.now ≤ 16 }
-    ensures { result ≡ total (map unsigned_abs (tenths_of positions.now)) }
-{
-    let mut sum: u64 = 0;
-    for k in 0..positions.len() {
-        sum += u64::from(positions[k].get().unsigned_abs());
-    }
-    sum
-}
-
-// Whether a net position is what the capacities take out of its zone.
-fn is_met(position: &NetPosition, borders: &[Border], zone: usize) -> bool
-    requires { length borders.now ≤ 48 }
-    ensures { Decides result (position.now.value ≡ net_capacity zone borders.now) }
-{
-    i64::from(position.get()) == capacity_out(borders, zone)
-}
-
-// Whether net positions add to 0, and each is what the capacities take out of its zone.
-fn is_balanced(positions: &[NetPosition], borders: &[Border]) -> bool
-    requires zones { length positions.now ≤ 16 }
-    requires borders { length borders.now ≤ 48 }
-    ensures { Decides result (Balanced (tenths_of positions.now) borders.now) }
-{
-    if position_sum(positions) != 0 {
-        return false;
-    }
-    for k in 0..positions.len() {
-        if !is_met(&positions[k], borders, k + 1) {
-            return false;
+impl Border {
+    // Its capacity, where an end is the zone.
+    fn capacity_in(&self, end: u8, zone: usize) -> i64
+        ensures value { result ≡ only end zone self.now.capacity.value }
+        ensures bound { unsigned_abs result ≤ 200000 }
+    {
+        if usize::from(end) == zone {
+            i64::from(self.capacity.get())
+        } else {
+            0
         }
     }
-    true
+
+    // What its capacity takes out of a zone.
+    fn capacity_at(&self, zone: usize) -> i64
+        ensures value { result ≡ at_zone zone self.now }
+        ensures bound { unsigned_abs result ≤ 400000 }
+    {
+        self.capacity_in(self.near, zone) - self.capacity_in(self.far, zone)
+    }
 }
 
-// What is wrong with the tables, if anything is.
-pub(crate) fn flaw_of(network: &Network) -> Option<Flaw>
-    ensures { Judged (tenths_of network.now.positions.items) network.now.borders.items result }
-{
-    if !is_balanced(network.positions(), network.borders()) {
-        return Some(Flaw::Imbalance);
+impl Network {
+    // What all capacities take out of a zone.
+    fn capacity_out(&self, zone: usize) -> i64
+        ensures { result ≡ net_capacity zone self.now.borders.items }
+    {
+        self.borders()
+            .iter()
+            .map(|border| border.capacity_at(zone))
+            .sum()
     }
-    if position_size(network.positions()) > LARGEST {
-        return Some(Flaw::Excess);
+
+    fn position_sum(&self) -> i64
+        ensures { result ≡ sum_z (tenths_of self.now.positions.items) }
+    {
+        self.positions()
+            .iter()
+            .map(|position| i64::from(position.get()))
+            .sum()
     }
-    None
+
+    fn position_size(&self) -> u64
+        ensures { result ≡ sum (map unsigned_abs (tenths_of self.now.positions.items)) }
+    {
+        self.positions()
+            .iter()
+            .map(|position| u64::from(position.get().unsigned_abs()))
+            .sum()
+    }
+
+    // Whether a zone's net position is what the capacities take out of it.
+    fn is_met(&self, zone: usize, position: &NetPosition) -> bool
+        ensures { Decides result (position.now.value ≡ net_capacity zone self.now.borders.items) }
+    {
+        i64::from(position.get()) == self.capacity_out(zone)
+    }
+
+    // Whether net positions add to 0, and each is what the capacities take out of its zone.
+    fn is_balanced(&self) -> bool
+        ensures { Decides result (Balanced (tenths_of self.now.positions.items) self.now.borders.items) }
+    {
+        self.position_sum() == 0
+            && self
+                .positions()
+                .iter()
+                .enumerate()
+                .all(|(k, position)| self.is_met(k + 1, position))
+    }
+
+    // Whether the tables are sound, or what is wrong with them.
+    pub(crate) fn verdict(&self) -> Result<(), Flaw>
+        ensures { Judged (tenths_of self.now.positions.items) self.now.borders.items result }
+    {
+        if !self.is_balanced() {
+            return Err(Flaw::Imbalance);
+        }
+        if self.position_size() > LARGEST {
+            return Err(Flaw::Excess);
+        }
+        Ok(())
+    }
 }

@@ -1,6 +1,6 @@
 //! Losses: a layer over any region, and the whole is a region again.
 ghost use Rattle.std.specs.Prelude.{◌≡◌};
-ghost use Rattle.hourbook.specs.LossRule.{shrink, drained, lossy, losses_means};
+ghost use Rattle.hourbook.specs.LossRule.{shrink, leaving_price, drained, lossy, losses_means};
 ghost use Rattle.hourbook.specs.LossBounds.{losses_bounded};
 
 use crate::hourfile::loss_table::LossTable;
@@ -12,32 +12,42 @@ use crate::region::rows::{Line, Zone};
 fn shrunk(spread: i32, loss: u64) -> i32
     ensures { result ≡ shrink spread loss }
 {
-    let left = u64::from(spread.unsigned_abs()).saturating_sub(loss) as i64;
+    let whole = i64::from(spread);
     if spread < 0 {
-        (-left) as i32
+        whole.saturating_add_unsigned(loss).min(0) as i32
     } else {
-        left as i32
+        whole.saturating_sub_unsigned(loss).max(0) as i32
     }
 }
 
-// What a loss of so many ten-thousandths takes of the price at the end that the flow leaves.
-fn taken(line: &Line, loss: u16) -> u64
-    ensures { result ≡ drained loss line.now }
-{
-    let price = if line.flow < 0 {
-        line.far_price
-    } else {
-        line.near_price
-    };
-    u64::from(loss) * u64::from(price.unsigned_abs()) / 10_000
-}
+impl Line {
+    // The price at the end that the flow leaves; no flow leaves the near end.
+    fn leaving_price(&self) -> i32
+        ensures { result ≡ leaving_price self.now }
+    {
+        if self.flow < 0 {
+            self.far_price
+        } else {
+            self.near_price
+        }
+    }
 
-// A line with its loss: all else is as below.
-fn lessened(line: Line, loss: u16) -> Line
-    ensures { result ≡ lossy loss line }
-{
-    let spread = shrunk(line.spread, taken(&line, loss));
-    Line { spread, ..line }
+    // What a loss of so many ten-thousandths takes of that price.
+    fn drained(&self, loss: u16) -> u64
+        ensures { result ≡ drained loss self.now }
+    {
+        u64::from(loss) * u64::from(self.leaving_price().unsigned_abs()) / 10_000
+    }
+
+    // The line with its loss: all else is as below.
+    fn lessened(self, loss: u16) -> Line
+        ensures { result ≡ lossy loss self }
+    {
+        Line {
+            spread: shrunk(self.spread, self.drained(loss)),
+            ..self
+        }
+    }
 }
 
 // A region of any kind with the losses of its lines.
@@ -57,8 +67,6 @@ impl<R> Losses<R> {
 
 impl<R: Region> Region for Losses<R> {
     ghost meaning = { λ s. losses_means s.table.losses.items (R.Region.meaning s.below) };
-
-    ghost bounded = { λ s. losses_bounded s.table.losses.items (R.Region.meaning s.below) (R.Region.bounded s.below) };
 
     fn verdict(&self) -> Result<(), Flaw> {
         self.below.verdict()
@@ -81,9 +89,10 @@ impl<R: Region> Region for Losses<R> {
     }
 
     fn line(&self, k: usize) -> Option<Line> {
-        match self.below.line(k) {
-            None => None,
-            Some(line) => Some(lessened(line, self.table.at(k))),
-        }
+        self.below
+            .line(k)
+            .map(|line| line.lessened(self.table.at(k)))
     }
+
+    ghost bounded = { λ s. losses_bounded s.table.losses.items (R.Region.meaning s.below) (R.Region.bounded s.below) };
 }

@@ -4,4 +4,5 @@ pub(crate) mod coordinated;
 pub(crate) mod fault;
 pub(crate) mod losses;
 pub(crate) mod meaning;
+pub(crate) mod parts;
 pub(crate) mod rows;

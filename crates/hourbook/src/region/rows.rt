@@ -1,13 +1,13 @@
 //! The parts of a region.
 // Prices in cents per MWh, net positions in tenths of a MW.
-#[derive(Clone, Copy)]
+#[derive(Clone, Copy, Debug, PartialEq, Eq)]
 pub(crate) struct Zone {
     pub(crate) price: i32,
     pub(crate) position: i32,
 }
 
-// Where a line ends: in a zone, numbered from 1, or in the slack hub.
-#[derive(Clone, Copy)]
+// Where a line ends: in a zone, numbered from 1, or in the slack hub, which is not a zone that is missing.
+#[derive(Clone, Copy, Debug, PartialEq, Eq)]
 pub(crate) enum LineEnd {
     Zone(u8),
     Hub,
@@ -15,7 +15,7 @@ pub(crate) enum LineEnd {
 
 // A line, the prices at its ends, and the spread by which it earns. The flow is positive where it leaves the near
 // zone, in hundred-thousandths of a MW.
-#[derive(Clone, Copy)]
+#[derive(Clone, Copy, Debug, PartialEq, Eq)]
 pub(crate) struct Line {
     pub(crate) near: u8,
     pub(crate) far: LineEnd,

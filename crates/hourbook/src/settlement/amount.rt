@@ -1,6 +1,6 @@
 //! Amounts within the limits of sharing, so that none is refused.
-ghost use Rattle.std.specs.Prelude.{◌≡◌, ◌≤◌, map, length, unsigned_abs};
-ghost use Rattle.sharing.specs.Shares.{total, shares};
+ghost use Rattle.std.specs.Prelude.{sum, ◌≡◌, ◌≤◌, map, length, unsigned_abs};
+ghost use Rattle.sharing.specs.Shares.{shares};
 ghost use Rattle.sharing.specs.Writes.{written, cells};
 
 use sharing::{Amount, Keeping, Weighted, share};
@@ -20,7 +20,7 @@ pub(crate) fn share_amount<X: Copy, R: Weighted, K: Keeping<R, X>>(
     keeper: &K,
     out: &mut [X],
 )
-    requires light { total (map R.Weighted.weighs rows.now) ≤ 4000000000 }
+    requires light { sum (map R.Weighted.weighs rows.now) ≤ 4000000000 }
     requires few { length rows.now ≤ 4000000000 }
     requires room { length rows.now ≤ length out.old }
     ensures { out.new ≡ written out.old 0 (cells (K.Keeping.cell keeper.now) rows.now (shares amount.cents (map R.Weighted.weighs rows.now))) }

@@ -1,6 +1,5 @@
 //! From the lines' amounts down to the owners' credits.
-ghost use Rattle.std.specs.Prelude.{◌≡◌, ◌≤◌, map, length, unsigned_abs};
-ghost use Rattle.sharing.specs.Shares.{total};
+ghost use Rattle.std.specs.Prelude.{sum, ◌≡◌, ◌≤◌, map, length, unsigned_abs};
 ghost use Rattle.sharing.specs.Writes.{written};
 ghost use Rattle.sharing.specs.Levels.{dealt};
 ghost use Rattle.hourbook.specs.Deals.{leg_deal, line_deal};
@@ -13,7 +12,6 @@ use crate::settlement::amount::{amount_of, share_amount};
 use sharing::{Amount, Plain};
 
 // A leg's amount, credited to its owners by key. Answers how many credits it wrote, from the front of `out` on.
-#[tactic(auto, using(crate::proofs::Dealing::length_leg))]
 fn deal_leg(amount: Amount, origin: Origin, line: u8, leg: &OwnedLeg, out: &mut [Row]) -> usize
     requires { length (leg_deal origin line amount.cents leg.now) ≤ length out.old }
     ensures memory { out.new ≡ written out.old 0 (leg_deal origin line amount.cents leg.now) }
@@ -35,6 +33,7 @@ fn deal_line(amount: Amount, origin: Origin, line: &OwnedLine, out: &mut [Row]) 
     ensures memory { out.new ≡ written out.old 0 (line_deal origin amount.cents line.now) }
     ensures count { result ≡ length (line_deal origin amount.cents line.now) }
 {
+    // no heap in settling, and a line has at most 64 legs
     let mut parts = [0i64; 64];
     share_amount(amount, &line.legs, &Plain, &mut parts);
     let mut count = 0;
@@ -57,7 +56,7 @@ pub(crate) fn deal_lines(
     lines: &[OwnedLine],
     out: &mut [Row],
 ) -> usize
-    requires small { total (map unsigned_abs amounts.now) ≤ 2000000000 }
+    requires small { sum (map unsigned_abs amounts.now) ≤ 2000000000 }
     requires long { length lines.now ≤ length amounts.now }
     requires room { length (dealt (line_deal origin) (map unsigned_abs amounts.now) lines.now) ≤ length out.old }
     ensures memory { out.new ≡ written out.old 0 (dealt (line_deal origin) (map unsigned_abs amounts.now) lines.now) }

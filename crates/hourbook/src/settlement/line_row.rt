@@ -4,7 +4,7 @@ ghost use Rattle.std.specs.Prelude.{◌≡◌};
 use sharing::{Receiving, Weighted};
 
 // The line's number, from 1, and its weight.
-#[derive(Clone, Copy)]
+#[derive(Clone, Copy, Debug, Default, PartialEq, Eq)]
 pub(crate) struct LineRow {
     pub(crate) number: u8,
     pub(crate) weight: u64,

@@ -1,6 +1,6 @@
 //! Settling: judged whole before anything is written.
-ghost use Rattle.std.specs.Prelude.{◌≡◌, ◌+◌, ◌*◌, ◌<◌, ◌≤◌, ◌++◌, map, length, pos, IfOk, vec_len, unsigned_abs};
-ghost use Rattle.sharing.specs.Shares.{total, shares};
+ghost use Rattle.std.specs.Prelude.{sum, ◌≡◌, ◌+◌, ◌*◌, ◌<◌, ◌≤◌, ◌++◌, map, length, pos, IfOk, vec_len, unsigned_abs};
+ghost use Rattle.sharing.specs.Shares.{shares};
 ghost use Rattle.sharing.specs.Writes.{written};
 ghost use Rattle.hourbook.specs.Worths.{weights};
 ghost use Rattle.hourbook.specs.Settled.{judged, Accepted, credit, work_of, paid, credits_of, needed};
@@ -13,8 +13,7 @@ use crate::settlement::amount::{amount_of, share_amount};
 use crate::settlement::deal::deal_lines;
 use crate::settlement::fault::SettlementFault;
 use crate::settlement::income::income;
-use crate::settlement::line_row::LineRow;
-use crate::settlement::weights::{line_count, weigh_all, write_weights};
+use crate::settlement::weights::{weigh_all, write_weights};
 use sharing::{Amount, LARGEST_AMOUNT, LARGEST_WEIGHT_SUM, Plain};
 
 // The income of a region that can be settled with this table and so many places of work memory.
@@ -27,7 +26,7 @@ pub(crate) fn judge<R: Region>(
     ensures facts { IfOk result (Accepted (R.meaning region.now) (vec_len table.now.lines) room) }
 {
     region.verdict()?;
-    let lines = line_count(region);
+    let lines = region.line_count();
     if lines != table.lines.len() {
         return Err(SettlementFault::Lines);
     }
@@ -58,36 +57,30 @@ pub(crate) fn entries_needed(income: i64, table: &Ownership) -> usize
 
 // Writes all weights, and then the lines' shares of `amount`.
 fn fill_work<R: Region>(region: &R, amount: Amount, work: &mut [i64])
-    requires some { 0 < length (R.meaning region.now).lines }
-    requires light { total (weights (R.meaning region.now)) ≤ 4000000000 }
+    requires light { sum (weights (R.meaning region.now)) ≤ 4000000000 }
     requires room { 2 * length (R.meaning region.now).lines ≤ length work.old }
     ensures { work.new ≡ written work.old 0 (map pos (weights (R.meaning region.now) ++ shares amount.cents (weights (R.meaning region.now)))) }
 {
-    let lines = line_count(region);
-    let mut rows = [LineRow {
-        number: 0,
-        weight: 0,
-    }; 64];
-    write_weights(region, &mut rows, work);
-    share_amount(amount, &rows[..lines], &Plain, &mut work[lines..]);
+    let rows = write_weights(region, work);
+    share_amount(amount, &rows, &Plain, &mut work[region.line_count()..]);
 }
 
 // Credits the owners: an income by the lines' shares, a loss in equal parts.
-fn pay(sum: i64, parts: &[i64], origin: Origin, table: &Ownership, out: &mut [Row])
-    requires small { unsigned_abs sum ≤ 2000000000 }
-    requires parts { total (map unsigned_abs parts.now) ≤ 2000000000 }
+fn pay(income: i64, parts: &[i64], origin: Origin, table: &Ownership, out: &mut [Row])
+    requires small { unsigned_abs income ≤ 2000000000 }
+    requires parts { sum (map unsigned_abs parts.now) ≤ 2000000000 }
     requires long { vec_len table.now.lines ≤ length parts.now }
-    requires room { needed sum table.now ≤ length out.old }
-    ensures { out.new ≡ written out.old 0 (paid origin sum (map unsigned_abs parts.now) table.now.lines.items table.now.owners.items) }
+    requires room { needed income table.now ≤ length out.old }
+    ensures { out.new ≡ written out.old 0 (paid origin income (map unsigned_abs parts.now) table.now.lines.items table.now.owners.items) }
 {
-    if sum < 0 {
+    if income < 0 {
         let credit = Credit {
             origin,
             line: 0,
             leg: 0,
             direction: Direction::Borne,
         };
-        share_amount(amount_of(sum), &table.owners, &credit, out);
+        share_amount(amount_of(income), &table.owners, &credit, out);
     } else {
         deal_lines(parts, origin, &table.lines, out);
     }
@@ -97,18 +90,18 @@ fn pay(sum: i64, parts: &[i64], origin: Origin, table: &Ownership, out: &mut [Ro
 pub(crate) fn write<R: Region>(
     region: &R,
     table: &Ownership,
-    sum: i64,
+    income: i64,
     origin: Origin,
     work: &mut [i64],
     out: &mut [Row],
     at: usize,
 )
-    requires accepted { Accepted (R.meaning region.now) (vec_len table.now.lines) (length work.old) sum }
-    requires room { at + needed sum table.now ≤ length out.old }
+    requires accepted { Accepted (R.meaning region.now) (vec_len table.now.lines) (length work.old) income }
+    requires room { at + needed income table.now ≤ length out.old }
     ensures work { work.new ≡ written work.old 0 (work_of (R.meaning region.now)) }
     ensures out { out.new ≡ written out.old at (credits_of origin (R.meaning region.now) table.now) }
 {
     let lines = table.lines.len();
-    fill_work(region, amount_of(sum.max(0)), work);
-    pay(sum, &work[lines..2 * lines], origin, table, &mut out[at..]);
+    fill_work(region, amount_of(income.max(0)), work);
+    pay(income, &work[lines..2 * lines], origin, table, &mut out[at..]);
 }

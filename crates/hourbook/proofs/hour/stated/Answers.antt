@@ -14,16 +14,16 @@ use Rattle.hourbook.specs.Tables.{cents_of, tenths_of}
 use Rattle.hourbook.proofs.hour.stated.Goals as goal
 
 abbrev below_means : Coordinated → Meaning
-below_means b = coordinated_means (cents_of (vec_items b.prices.now.list)) (tenths_of (vec_items b.network.now.positions)) (vec_items b.network.now.borders) b.flaw
+below_means b = coordinated_means (cents_of (vec_items b.prices.now.list)) (tenths_of (vec_items b.network.now.positions)) (vec_items b.network.now.borders) b.verdict
 
 -- the layered region means what its tables say
 layered : (held below : Coordinated) (kept table : LossTable) (n : Network) (p : Prices) → held ≡ below → kept ≡ table → below.network.now ≡ n → below.prices.now ≡ p
-    → losses_means (vec_items kept.losses) (below_means held) ≡ losses_means (vec_items table.losses) (coordinated_means (cents_of (vec_items p.list)) (tenths_of (vec_items n.positions)) (vec_items n.borders) below.flaw)
+    → losses_means (vec_items kept.losses) (below_means held) ≡ losses_means (vec_items table.losses) (coordinated_means (cents_of (vec_items p.list)) (tenths_of (vec_items n.positions)) (vec_items n.borders) below.verdict)
 layered held below kept table n p e f g h =
     ap (λ t. losses_means (vec_items t.losses) (below_means held)) f
     ∙ (ap (λ b. losses_means (vec_items table.losses) (below_means b)) e
-    ∙ (ap (λ x. losses_means (vec_items table.losses) (coordinated_means (cents_of (vec_items x.list)) (tenths_of (vec_items below.network.now.positions)) (vec_items below.network.now.borders) below.flaw)) h
-    ∙ ap (λ x. losses_means (vec_items table.losses) (coordinated_means (cents_of (vec_items p.list)) (tenths_of (vec_items x.positions)) (vec_items x.borders) below.flaw)) g))
+    ∙ (ap (λ x. losses_means (vec_items table.losses) (coordinated_means (cents_of (vec_items x.list)) (tenths_of (vec_items below.network.now.positions)) (vec_items below.network.now.borders) below.verdict)) h
+    ∙ ap (λ x. losses_means (vec_items table.losses) (coordinated_means (cents_of (vec_items p.list)) (tenths_of (vec_items x.positions)) (vec_items x.borders) below.verdict)) g))
 
 pub returns : goal.returns
 returns c =
@@ -38,7 +38,7 @@ returns c =
     let posted = subst (λ m. Posted m file.ownership file.hour used before after) same c.in_ok-book.ensures in
     let memory = c.deref.ensures.value ∙ with_items_is c.in_ok-memory.memory after long in
     IfOk-weaker c.pages.result _ _ (λ t pages. record {
-      flaw = below.flaw;
+      verdict = below.verdict;
       judged = told.2;
       used = used;
       before = before;

@@ -4,7 +4,7 @@ use Rattle.sharing.proofs.Counted.{whole_heavy, counted_within}
 use Rattle.sharing.proofs.counting.count.Goals as goal
 
 pub returns-in_err-weigh : goal.returns-in_err-weigh
-returns-in_err-weigh g c = rw c.from_residual.ensures (whole_heavy _ c.in_err-weigh.ensures)
+returns-in_err-weigh g c = rw c.from_residual.ensures (whole_heavy (map g.R.Weighted.weighs c.args.rows.now) c.in_err-weigh.ensures)
 
 pub returns : goal.returns
 returns g c =

@@ -13,7 +13,7 @@ pub loop-i-init : goal.loop-i-init
 loop-i-init g c =
     let ws = map g.R.Weighted.weighs c.args.rows.now in
     let rows = length-counted ws ∙ length-map c.args.rows.now g.R.Weighted.weighs in
-    underway_start _ _ _ _ _ _ _ c.requires.counts.sum (λ h. rw c.requires.counts.sum (counted_positive ws (rw length-counted at h))) (sym rows) (rw (length-counted, length-map) c.requires.room)
+    underway_start _ _ _ _ _ _ _ c.requires.counts.all (λ h. rw c.requires.counts.all (counted_positive ws (rw length-counted at h))) (sym rows) (rw (length-counted, length-map) c.requires.room)
 
 module _ (g : given.Over) (c : goal.After-weight g) where
   inside : c.loop-i.i < length (counted (map g.R.Weighted.weighs c.args.rows.now))

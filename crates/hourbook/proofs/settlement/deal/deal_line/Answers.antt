@@ -1,8 +1,8 @@
-use Rattle.std.proofs.Common.{◌≡◌, ℕ, ◌∷◌, List, ℤ, pos, length, map, replicate, take, nat_abs, vec_items, refl, ap, ◌∙◌, arith, rules, w64, to_z, of_z}
+use Rattle.std.proofs.Common.{◌≡◌, ℕ, ◌∷◌, List, ℤ, pos, length, map, replicate, take, nat_abs, vec_items, sym, refl, ap, ◌∙◌, arith, rules, w64, to_z, of_z}
 use Rattle.std.specs.Iterator.Adapters.{zip_first, zip_second}
 use Rattle.std.specs.Slice.Iter.{iter_rest}
 use Rattle.std.proofs.lemmas.Int.{ints, to_z-of_z}
-use Rattle.std.proofs.lemmas.List.{length-map}
+use Rattle.std.proofs.lemmas.List.{length-map, take_at}
 use Rattle.sharing.specs.Shares.{shares}
 use Rattle.sharing.specs.Writes.{written}
 use Rattle.sharing.proofs.Lawful.{adds, length-shares}
@@ -11,7 +11,7 @@ use Rattle.hourbook.specs.declared.hourfile.owned_leg.OwnedLeg.{OwnedLeg}
 use Rattle.hourbook.specs.Deals.{leg_deal}
 use Rattle.hourbook.specs.Legs.{contributions}
 use Rattle.hourbook.proofs.Dealing.{some_rows, dealing_start, dealing_small, dealing_room, dealing_next}
-use Rattle.hourbook.proofs.Parts.{front, abs_all}
+use Rattle.hourbook.proofs.Parts.{abs_all}
 use Rattle.hourbook.proofs.settlement.deal.deal_line.Goals as goal
 
 -- what of the parts is read for these legs
@@ -38,32 +38,34 @@ loop-leg-init c =
     let parts : parts_of (iter_rest (zip_first left)) (iter_rest (zip_second left)) ≡ ss =
     ap (λ l. parts_of l (iter_rest (zip_second left))) first
     ∙ (ap (parts_of legs) (second ∙ memory)
-    ∙ (ap (map nat_abs) (front (replicate 64 (pos 0)) (map pos ss) (length legs) long)
+    ∙ (ap (map nat_abs) (take_at (map pos ss) _ (length legs) long)
     ∙ abs_all ss)) in
-    rw (parts, first) (dealing_start (leg_deal c.args.origin line.number) _ _ ss legs (omega arith) (omega arith) refl c.requires)
+    rw (parts, first) (dealing_start (leg_deal c.args.origin line.number) ss legs _ (omega arith) (omega arith) c.requires)
 
 -- what is left of the parts, after the one at hand
-part_more : (legs legs_left : List OwnedLeg) (parts parts_left : List ℤ) (leg : OwnedLeg) (part : ℤ) → legs ≡ leg ∷ legs_left → parts ≡ part ∷ parts_left → parts_of legs parts ≡ nat_abs part ∷ parts_of legs_left parts_left
+part_more : {legs legs_left : List OwnedLeg} {parts parts_left : List ℤ} {leg : OwnedLeg} {part : ℤ} {t : ℕ} → legs ≡ leg ∷ legs_left → parts ≡ part ∷ parts_left → t ≡ nat_abs part → parts_of legs parts ≡ t ∷ parts_of legs_left parts_left
 unfolding parts_of
-part_more legs legs_left parts parts_left leg part first second = ap (λ l. parts_of l parts) first ∙ ap (parts_of (leg ∷ legs_left)) second
+part_more {legs_left = legs_left} {parts = parts} {parts_left = parts_left} {leg = leg} first second same =
+    ap (λ l. parts_of l parts) first ∙ (ap (parts_of (leg ∷ legs_left)) second ∙ ap (λ t. t ∷ parts_of legs_left parts_left) (sym same))
 
 pub amount_of-requires : goal.amount_of-requires
 unfolding parts_of
 amount_of-requires c =
     let left = c.in-Some.ensures.steps in
-    let small = dealing_small _ _ _ (nat_abs c.in-Some.part.now) _ _ _ _ _ _ _ _ c.loop-leg.invariant left.0 (part_more _ _ _ _ _ _ left.0 left.1) refl in
-    let same : to_z w64 (of_z w64 c.in-Some.part.now) ≡ c.in-Some.part.now = to_z-of_z w64 c.in-Some.part.now (omega (arith, ints)) in
+    let part = c.in-Some.part.now in
+    let small = dealing_small (nat_abs part) c.loop-leg.invariant left.0 (part_more left.0 left.1 refl) in
+    let same : to_z w64 (of_z w64 part) ≡ part = to_z-of_z w64 part (omega (arith, ints)) in
     rw same small
 
 pub deal_leg-count-requires : goal.deal_leg-count-requires
 unfolding parts_of
 deal_leg-count-requires c =
     let left = c.in-Some.ensures.steps in
-    dealing_room _ _ _ c.amount_of.result.cents _ _ _ _ _ _ _ _ c.loop-leg.invariant left.0 (part_more _ _ _ _ _ _ left.0 left.1) (search rules)
+    dealing_room c.amount_of.result.cents c.loop-leg.invariant left.0 (part_more left.0 left.1 (search rules))
 
 pub loop-leg-preserved : goal.loop-leg-preserved
 unfolding parts_of
 loop-leg-preserved c =
     let left = c.in-Some.ensures.steps in
     let said = c.deal_leg-count.ensures in
-    dealing_next _ _ _ c.amount_of.result.cents _ _ _ _ _ _ _ _ c.loop-leg.invariant left.0 (part_more _ _ _ _ _ _ left.0 left.1) (search rules) c.deal_leg-count.result c.deal_leg-count.new.out said.count said.memory
+    dealing_next c.amount_of.result.cents c.loop-leg.invariant left.0 (part_more left.0 left.1 (search rules)) c.deal_leg-count.result c.deal_leg-count.new.out said.count said.memory

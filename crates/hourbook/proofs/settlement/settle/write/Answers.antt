@@ -6,26 +6,26 @@ use Rattle.sharing.specs.Writes.{written}
 use Rattle.sharing.proofs.Lawful.{adds, length-shares}
 use Rattle.hourbook.specs.Worths.{weights, weight, income_of}
 use Rattle.hourbook.specs.Settled.{credit, work_of, paid}
-use Rattle.hourbook.proofs.Dealing.{rest_room, written_rest}
+use Rattle.hourbook.proofs.Rest.{rest_room, written_rest}
 use Rattle.hourbook.proofs.Parts.{second, abs_all, credit_max, credit_small}
 use Rattle.hourbook.proofs.settlement.settle.write.Given as given
 use Rattle.hourbook.proofs.settlement.settle.write.Goals as goal
 use Rattle.hourbook.proofs.settlement.settle.write.Goals.{After-fill_work}
 
 module _ (g : given.Over) (c : goal.After-fill_work g) where
-  fitted : to_z w64 (of_z w64 c.args.sum) ≡ c.args.sum
+  fitted : to_z w64 (of_z w64 c.args.income) ≡ c.args.income
   fitted =
-      let fits : SFits w64 c.args.sum = omega (arith, ints, c.requires.accepted.small) in
+      let fits : SFits w64 c.args.income = omega (arith, ints, c.requires.accepted.small) in
       to_z-of_z w64 _ fits
 
   -- the sum that was judged is the region's income
-  sum_is : to_z w64 (of_z w64 c.args.sum) ≡ income_of (g.R.Region.meaning c.args.region.now)
+  sum_is : to_z w64 (of_z w64 c.args.income) ≡ income_of (g.R.Region.meaning c.args.region.now)
   sum_is = fitted ∙ c.requires.accepted.is
 
   work_is : c.fill_work.new.work ≡ written c.args.work.now 0 (work_of (g.R.Region.meaning c.args.region.now))
   work_is =
       let ws = weights (g.R.Region.meaning c.args.region.now) in
-      let z = to_z w64 (of_z w64 c.args.sum) in
+      let z = to_z w64 (of_z w64 c.args.income) in
       let low : nat_abs z ≤ 2000000000 = rw fitted c.requires.accepted.small in
       let top : nat_abs c.max.result ≡ credit z = credit_max z c.max.result c.max.ensures.value in
       let fits : SFits w64 c.max.result = omega (arith, ints, credit_small z) in
@@ -48,7 +48,6 @@ pub fill_work-requires : goal.fill_work-requires
 fill_work-requires g c =
     let acc = c.requires.accepted in
     record {
-      some = omega (arith, acc.lines, c.args.table.now.some);
       light = acc.light;
       room = acc.room;
     }
@@ -87,6 +86,6 @@ returns g c =
       work = work_is g b;
       out =
           written_rest c.args.out.now c.args.at _ c.pay.new.out (omega (arith, c.requires.room)) c.pay.ensures
-          ∙ (ap (λ ss. written c.args.out.now c.args.at (paid origin (to_z w64 (of_z w64 c.args.sum)) ss lines owners)) parts
+          ∙ (ap (λ ss. written c.args.out.now c.args.at (paid origin (to_z w64 (of_z w64 c.args.income)) ss lines owners)) parts
           ∙ ap (λ z. written c.args.out.now c.args.at (paid origin z (shares t (weights m)) lines owners)) (sum_is g b));
     }

@@ -1,20 +1,27 @@
-use Rattle.std.proofs.Common.{◌≡◌, ◌+◌, ◌<◌, length, get_or, drop, arith}
-use Rattle.std.proofs.lemmas.List.{at_drop_more, at_drop_all, length-map}
-use Rattle.sharing.specs.Shares.{total}
-use Rattle.hourbook.specs.Worths.{weights, weight}
+use Rattle.std.proofs.Common.{drop, sym, ◌∙◌, subst, arith, rules, tests}
+use Rattle.std.proofs.lemmas.Iterator.{YieldsList-from_map}
+use Rattle.std.proofs.lemmas.Iterator.Adapters.{serves_from_places, fits_from_length, at_most_from_yields_List}
+use Rattle.std.proofs.lemmas.Iterator.Consumers.{YieldsList-at, YieldsList-from_first, sum_from_yields_List}
+use Rattle.hourbook.specs.Meaning.{LineBounded}
+use Rattle.hourbook.specs.Worths.{weight}
 use Rattle.hourbook.proofs.settlement.weights.weigh_all.Goals as goal
 
-pub loop-k-preserved : goal.loop-k-preserved
-loop-k-preserved g c =
-    let m = g.R.Region.meaning c.args.region.now in
-    let n = length-map m.lines weight in
-    let h : c.loop-k.k < length (weights m) = omega arith in
-    let next : total (drop c.loop-k.k (weights m)) ≡ get_or (weights m) c.loop-k.k 0 + total (drop (c.loop-k.k + 1) (weights m)) = at_drop_more total (weights m) c.loop-k.k 0 h in
-    (omega arith, omega arith)
+pub sum-requires-clause-can : goal.sum-requires-clause-can
+sum-requires-clause-can g c =
+    let lines = (g.R.Region.meaning c.args.region.now).lines in
+    let road = YieldsList-at c.map.ensures.source (YieldsList-from_first (λ x. x) (λ s. drop s.next (g.R.Region.meaning s.region.now).lines) lines c.lines.ensures) in
+    let bounded = (g.met.R.Region.bounded c.args.region.now).each_line in
+    (tt, serves_from_places road (λ x q h. search rules) (λ x k h e. let fits : LineBounded x = subst LineBounded (sym e) (bounded k x h) in search rules))
+
+pub sum-requires-clause-fits : goal.sum-requires-clause-fits
+sum-requires-clause-fits g c =
+    let lines = (g.R.Region.meaning c.args.region.now).lines in
+    let few = (g.met.R.Region.bounded c.args.region.now).few_lines in
+    let road = YieldsList-at c.map.ensures.source (YieldsList-from_first (λ x. x) (λ s. drop s.next (g.R.Region.meaning s.region.now).lines) lines c.lines.ensures) in
+    fits_from_length _ _ 64 _ (at_most_from_yields_List road few) c.map.ensures.closure (omega arith) (λ x r q k. search (rules, tests))
 
 pub returns : goal.returns
 returns g c =
-    let m = g.R.Region.meaning c.args.region.now in
-    let n = length-map m.lines weight in
-    let end : total (drop c.loop-k.k (weights m)) ≡ 0 = at_drop_all total (weights m) c.loop-k.k (omega arith) in
-    omega arith
+    let lines = (g.R.Region.meaning c.args.region.now).lines in
+    let road = YieldsList-at c.map.ensures.source (YieldsList-from_first (λ x. x) (λ s. drop s.next (g.R.Region.meaning s.region.now).lines) lines c.lines.ensures) in
+    sum_from_yields_List c.map.result _ c.sum.ensures.ran (YieldsList-from_map _ weight road c.map.ensures.closure (λ x r q k. search rules))

@@ -1,4 +1,4 @@
-use Rattle.std.proofs.Common.{◌≡◌, map, drop, pos}
+use Rattle.std.proofs.Common.{◌≡◌, map, length, take, drop, pos}
 use Rattle.sharing.specs.Writes.{written}
 use Rattle.hourbook.specs.Worths.{weights}
 use Rattle.hourbook.specs.LineRows.{line_rows_from}
@@ -7,5 +7,6 @@ use Rattle.hourbook.proofs.settlement.weights.write_weights.Given as goal
 abbrev pub invariant-loop-k : goal.invariant-loop-k
 invariant-loop-k g l =
     let ws = weights (g.R.Region.meaning l.region) in
-    (written l.rows l.k (drop l.k (line_rows_from 1 ws)) ≡ written l.initial.rows 0 (line_rows_from 1 ws))
-    × (written l.work l.k (drop l.k (map pos ws)) ≡ written l.initial.work 0 (map pos ws))
+    let k = length l.yielded in
+    (l.rows.items ≡ take k (line_rows_from 1 ws))
+    × (written l.work k (drop k (map pos ws)) ≡ written l.initial.work 0 (map pos ws))

@@ -2,7 +2,8 @@ use Rattle.std.proofs.Common.{◌≡◌, vec_items, sym, ◌∙◌, arith, rules
 use Rattle.std.specs.List.{sum_by}
 use Rattle.std.proofs.iter.runs.Made.{chains}
 use Rattle.hourbook.specs.OwnerRows.{leg_rows}
-use Rattle.hourbook.proofs.Counted.{total-map, few_leg_rows}
+use Rattle.std.proofs.lemmas.List.Sums.{sum-map}
+use Rattle.hourbook.proofs.Counted.{few_leg_rows}
 use Rattle.hourbook.proofs.hourfile.owned_line.OwnedLine.row_count.Goals as goal
 
 pub sum-requires-clause-fits : goal.sum-requires-clause-fits
@@ -15,7 +16,7 @@ pub returns-clause-is : goal.returns-clause-is
 returns-clause-is c =
     let legs = vec_items c.args.self.now.legs in
     let all : c.sum.result ≡ sum_by leg_rows legs = search (rules, chains) in
-    all ∙ sym (total-map leg_rows legs)
+    all ∙ sym (sum-map leg_rows legs)
 
 pub returns-clause-few : goal.returns-clause-few
 returns-clause-few c =

@@ -1,14 +1,18 @@
-use Rattle.std.proofs.Common.{vec_items, sym}
-use Rattle.hourbook.proofs.Lessened.{nth-lessen_none, nth-lessen_some}
+use Rattle.std.proofs.Common.{◌≡◌, ℕ, zero, suc, List, [], ◌∷◌, get_or, refl, rules}
+use Rattle.std.specs.List.{slice_get}
+use Rattle.std.specs.Option.{option_map}
+use Rattle.hourbook.specs.declared.region.rows.Line.{Line}
+use Rattle.hourbook.specs.LossRule.{lessen, lossy}
 use Rattle.hourbook.proofs.region.losses.LossesRegion.line.Goals as goal
 
-pub returns-in-None : goal.returns-in-None
-returns-in-None g c =
-    let s = c.args.self.now in
-    sym (nth-lessen_none (vec_items s.table.losses) (g.R.Region.meaning s.below).lines c.args.k (sym c.in-None.ensures))
+slice_get-lessen : (ps : List ℕ) (xs : List Line) (k : ℕ) → slice_get (lessen ps xs) k ≡ option_map (lossy (get_or ps k 0)) (slice_get xs k)
+slice_get-lessen ps [] k = refl
+slice_get-lessen [] (x ∷ xs) zero = refl
+slice_get-lessen [] (x ∷ xs) (suc k) = slice_get-lessen [] xs k
+slice_get-lessen (p ∷ ps) (x ∷ xs) zero = refl
+slice_get-lessen (p ∷ ps) (x ∷ xs) (suc k) = slice_get-lessen ps xs k
 
-pub returns-in-Some : goal.returns-in-Some
-returns-in-Some g c =
+pub returns : goal.returns
+returns g c =
     let s = c.args.self.now in
-    let n = nth-lessen_some (vec_items s.table.losses) (g.R.Region.meaning s.below).lines c.args.k c.in-Some.line (sym c.in-Some.ensures) in
-    cc
+    rw (slice_get-lessen s.table.losses.items (g.R.Region.meaning s.below).lines c.args.k) (search rules)
