@@ -17,6 +17,7 @@ use crate::settlement::weights::{weigh_all, write_weights};
 use sharing::{Amount, LARGEST_AMOUNT, LARGEST_WEIGHT_SUM, Plain};
 
 // The income of a region that can be settled with this table and so many places of work memory.
+// Region and table stay two parameters: a caller is lent each by itself, and a clause names the one or the other.
 pub(crate) fn judge<R: Region>(
     region: &R,
     table: &Ownership,
