@@ -94,7 +94,7 @@ fn stated(heap: Global, file: HourFile) -> Result<Vec<u8>, Failure>
         losses,
         ownership,
     } = file;
-    let below = Coordinated::of(&network, &prices).ok_or(Failure::Unbuilt)?;
+    let below = Coordinated::new(&network, &prices).ok_or(Failure::Unbuilt)?;
     let region = Losses::over(below, losses);
     let mut memory = vec![in heap; BLANK; ENTRIES]?;
     let mut work = vec![in heap; 0i64; WORK]?;

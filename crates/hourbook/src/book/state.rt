@@ -29,7 +29,7 @@ impl RestingBook {
         if owner < 1 || owner > OWNERS {
             return Err(BookFault::Owner);
         }
-        let statement = Statement::of(entries, owner);
+        let statement = Statement::new(entries, owner);
         if out.len() < statement.len() {
             return Err(BookFault::Statement);
         }

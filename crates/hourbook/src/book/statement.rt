@@ -44,7 +44,7 @@ impl<'a> Model for Statement<'a> {
 }
 
 impl<'a> Statement<'a> {
-    pub(crate) fn of(entries: &'a [Row], owner: u8) -> Statement<'a>
+    pub(crate) fn new(entries: &'a [Row], owner: u8) -> Statement<'a>
         requires { length entries.now ≤ 4294967295 }
         ensures { result ≡ statement_of owner (own owner entries.now) }
     {

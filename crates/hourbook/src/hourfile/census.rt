@@ -23,7 +23,7 @@ pub(crate) struct Census {
 }
 
 impl Census {
-    pub(crate) fn of(header: Header, method: Method, tally: Tally) -> Census
+    pub(crate) fn new(header: Header, method: Method, tally: Tally) -> Census
         requires limits { WithinLimits tally }
         requires zones { 0 < tally.zones }
         ensures about { (result.hour ≡ header.hour) × (result.region ≡ header.region) × (result.method ≡ method) }

@@ -59,7 +59,7 @@ impl Gathered {
         ensures { IfOk result (λ g. Collected bytes.now (census_lines census) (said g)) }
     {
         let mut gathered = Gathered::new(heap, census)?;
-        let mut records = Records::of(bytes);
+        let mut records = Records::new(bytes);
         let mut place = 0;
         // no `for` over `records.by_ref()`: tried, and after one the proof knows nothing of `records`
         while let Some(record) = records.next() {

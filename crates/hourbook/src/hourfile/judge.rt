@@ -51,7 +51,7 @@ fn formed(bytes: &[u8]) -> Result<Census, FileFault>
     let header = order(bytes)?;
     let tally = counts(bytes, header.method())?;
     let method = ranges(bytes, header)?;
-    Ok(Census::of(header, method, tally))
+    Ok(Census::new(header, method, tally))
 }
 
 // Every kind is known, and no body is cut short.
@@ -59,7 +59,7 @@ fn whole(bytes: &[u8]) -> Result<(), FileFault>
     ensures rule { MatchResult result (λ _. AllRead bytes.now) (Unreads bytes.now) }
     ensures number { IfErr result (λ e. number_of e ≡ 1) }
 {
-    let mut records = Records::of(bytes);
+    let mut records = Records::new(bytes);
     let mut read = 0;
     // Not `by_ref().count()`, whose contract says nothing of what it leaves unread: the proof does not close.
     while let Some(_) = records.next() {
@@ -119,7 +119,7 @@ fn names(bytes: &[u8], census: Census) -> Result<(), FileFault>
     ensures rule { MatchResult result (λ _. NamesKept bytes.now census) (NamesBroken bytes.now census) }
     ensures number { IfErr result (λ e. number_of e ≡ 5) }
 {
-    follow(bytes, Names::of(census))?;
+    follow(bytes, Names::new(census))?;
     Ok(())
 }
 

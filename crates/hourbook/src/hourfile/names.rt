@@ -30,7 +30,7 @@ pub(crate) fn is_numbered(n: u8, count: u8) -> bool
 }
 
 impl Names {
-    pub(crate) fn of(census: Census) -> Names
+    pub(crate) fn new(census: Census) -> Names
         ensures { result ≡ none_named census }
     {
         Names {

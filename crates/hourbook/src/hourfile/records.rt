@@ -13,7 +13,7 @@ pub(crate) struct Records<'a> {
 }
 
 impl<'a> Records<'a> {
-    pub(crate) fn of(bytes: &'a [u8]) -> Records<'a>
+    pub(crate) fn new(bytes: &'a [u8]) -> Records<'a>
         ensures { result.rest.now ≡ bytes.now }
     {
         Records { rest: bytes }

@@ -40,7 +40,7 @@ pub(crate) fn follow<R: Rule>(bytes: &[u8], mut rule: R) -> Result<R, FileFault>
     ensures first { MatchResult result (KeptTo R.passes R.after rule bytes.now) (BrokenAt R.passes R.after R.fault rule bytes.now) }
     ensures ready { IfOk result R.ready }
 {
-    for (before, record) in Records::of(bytes).enumerate() {
+    for (before, record) in Records::new(bytes).enumerate() {
         if !rule.admits(&record) {
             return Err(R::fault_at(before + 1));
         }

@@ -32,7 +32,7 @@ impl Sums {
         }
     }
 
-    pub(crate) fn of(&self, number: u8) -> u16
+    pub(crate) fn get(&self, number: u8) -> u16
         ensures value { Numbered 64 number → result ≡ slice_index self.now.amounts (number - 1) }
         ensures none { (Numbered 64 number → ⊥) → result ≡ 0 }
     {

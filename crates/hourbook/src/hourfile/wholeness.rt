@@ -90,7 +90,7 @@ fn sums_of<R: SumRule>(bytes: &[u8]) -> Sums
     ensures { SumsOf R.adds bytes.now result.amounts }
 {
     let mut sums = Sums::new();
-    for record in Records::of(bytes) {
+    for record in Records::new(bytes) {
         if let Some((number, amount)) = R::part(&record) {
             sums.add(number, amount);
         }
@@ -105,7 +105,7 @@ pub(crate) fn add_up<R: SumRule>(bytes: &[u8], last: u8) -> Result<(), FileFault
 {
     let sums = sums_of::<R>(bytes);
     for number in 1..=last {
-        if !R::is_enough(sums.of(number)) {
+        if !R::is_enough(sums.get(number)) {
             return Err(R::fault_at(usize::from(number)));
         }
     }

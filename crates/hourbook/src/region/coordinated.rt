@@ -24,7 +24,7 @@ pub(crate) struct Coordinated<'a> {
 
 impl<'a> Coordinated<'a> {
     // The region of tables of this method with as many prices as net positions, and none of others.
-    pub(crate) fn of(network: &'a Network, prices: &'a Prices) -> Option<Coordinated<'a>>
+    pub(crate) fn new(network: &'a Network, prices: &'a Prices) -> Option<Coordinated<'a>>
         ensures { MatchOption result (network.now.method ≡ Method.Coordinated → vec_len prices.now.list ≢ vec_len network.now.positions) (λ s. (s.network.now ≡ network.now) × (s.prices.now ≡ prices.now) × Judged (tenths_of network.now.positions.items) network.now.borders.items s.verdict) }
     {
         if network.method() != Method::Coordinated

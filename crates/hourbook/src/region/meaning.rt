@@ -40,13 +40,13 @@ pub(crate) trait Region {
     final fn zones(&self) -> Parts<'_, Self, Zone>
         ensures { drop result.next (meaning result.region.now).zones ≡ (meaning self.now).zones }
     {
-        Parts::of(self)
+        Parts::new(self)
     }
 
     // All lines, in order.
     final fn lines(&self) -> Parts<'_, Self, Line>
         ensures { drop result.next (meaning result.region.now).lines ≡ (meaning self.now).lines }
     {
-        Parts::of(self)
+        Parts::new(self)
     }
 }

@@ -49,7 +49,7 @@ pub(crate) struct Parts<'a, R, P> {
 }
 
 impl<'a, R, P> Parts<'a, R, P> {
-    pub(crate) fn of(region: &'a R) -> Parts<'a, R, P>
+    pub(crate) fn new(region: &'a R) -> Parts<'a, R, P>
         ensures region { result.region.now ≡ region.now }
         ensures first { result.next ≡ 0 }
     {

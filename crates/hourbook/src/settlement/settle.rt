@@ -104,5 +104,11 @@ pub(crate) fn write<R: Region>(
 {
     let lines = table.lines.len();
     fill_work(region, amount_of(income.max(0)), work);
-    pay(income, &work[lines..2 * lines], origin, table, &mut out[at..]);
+    pay(
+        income,
+        &work[lines..2 * lines],
+        origin,
+        table,
+        &mut out[at..],
+    );
 }

@@ -28,7 +28,7 @@ layered held below kept table n p e f g h =
 pub returns : goal.returns
 returns c =
     let below = c.in_ok-below.below in
-    let told = rw c.in_ok-below.ensures.ok_part at c.of.ensures in
+    let told = rw c.in_ok-below.ensures.ok_part at c.new.ensures in
     let file = c.args.file in
     let used = c.in_ok-book.book.used in
     let before = c.deref_mut.result.now in

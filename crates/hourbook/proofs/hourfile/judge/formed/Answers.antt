@@ -11,8 +11,8 @@ returns-in_err-tally-clause-rules c =
 
 pub returns-clause-rules : goal.returns-clause-rules
 returns-clause-rules c =
-    let about = c.of.ensures.about in
-    let counts = c.of.ensures.counts in
+    let about = c.new.ensures.about in
+    let counts = c.new.ensures.counts in
     record {
       header = c.in_ok-header.header;
       tally = c.in_ok-tally.tally;

@@ -5,7 +5,7 @@ use Rattle.hourbook.proofs.Passing.{passing_start, passing_next}
 use Rattle.hourbook.proofs.hourfile.judge.whole.Goals as goal
 
 pub loop-read-init : goal.loop-read-init
-loop-read-init c = passing_start _ _ c.of-records.ensures
+loop-read-init c = passing_start _ _ c.new-records.ensures
 
 pub loop-read-preserved : goal.loop-read-preserved
 loop-read-preserved c = passing_next _ _ _ _ c.in-Some.field-0 c.loop-read.invariant c.in-Some.ensures.steps

@@ -8,7 +8,7 @@ use Rattle.hourbook.proofs.Collect.{encoded_some, collects_none, collects_next}
 use Rattle.hourbook.proofs.hourfile.gathered.Gathered.from_bytes.Goals as goal
 
 pub loop-record-init : goal.loop-record-init
-loop-record-init c = (collects_none _ _ _ c.of-records.ensures, omega (arith, ap length c.of-records.ensures))
+loop-record-init c = (collects_none _ _ _ c.new-records.ensures, omega (arith, ap length c.new-records.ensures))
 
 pub loop-record-preserved : goal.loop-record-preserved
 loop-record-preserved c =
