@@ -6,10 +6,10 @@ use crate::book::fault::BookFault;
 use crate::entry::row::Row;
 
 // The first `used` places of memory, where it has so many.
-pub(crate) fn used_entries(memory: &[Row], used: u32) -> Result<&[Row], BookFault>
+pub(crate) fn used_entries(memory: &[Row], used: usize) -> Result<&[Row], BookFault>
     ensures { MatchResult result
         (λ es. (used ≤ length memory.now) × (es.now ≡ take used memory.now))
         (λ fault. (length memory.now < used) × (fault ≡ Entries)) }
 {
-    memory.get(..used as usize).ok_or(BookFault::Entries)
+    memory.get(..used).ok_or(BookFault::Entries)
 }

@@ -19,7 +19,7 @@ mod text;
 // All used entries count.
 #[derive(Drop)]
 pub(crate) struct RestingBook {
-    used: u32,
+    used: usize,
     ghost few: { used ≤ 1000000 },
 }
 
@@ -27,7 +27,7 @@ pub(crate) struct RestingBook {
 #[derive(Drop)]
 pub(crate) struct OpenBook {
     rest: RestingBook,
-    used: u32,
+    used: usize,
     hour: u32,
     settled: SettledRegions,
     ghost grown: { rest.used ≤ used },

@@ -59,17 +59,9 @@ impl OpenBook {
             hour: self.hour,
             region: table.region.get(),
         };
-        write(
-            region,
-            table,
-            income,
-            origin,
-            work,
-            memory,
-            self.used as usize,
-        );
+        write(region, table, income, origin, work, memory, self.used);
         self.settled = self.settled.with(table.region);
-        self.used += entries_needed(income, table) as u32;
+        self.used += entries_needed(income, table);
         Ok(income)
     }
 }

@@ -25,7 +25,7 @@ impl Direction {
     fn amount(self, share: Amount) -> i32
         ensures { result ≡ directed self share.cents }
     {
-        let cents = share.cents() as i32;
+        let cents = share.cents().cast_signed();
         match self {
             Direction::Received => cents,
             Direction::Borne => -cents,

@@ -12,11 +12,11 @@ use crate::region::rows::{Line, Zone};
 fn shrunk(spread: i32, loss: u64) -> i32
     ensures { result ≡ shrink spread loss }
 {
-    let whole = i64::from(spread);
+    let loss = u32::try_from(loss).unwrap_or(u32::MAX);
     if spread < 0 {
-        whole.saturating_add_unsigned(loss).min(0) as i32
+        spread.saturating_add_unsigned(loss).min(0)
     } else {
-        whole.saturating_sub_unsigned(loss).max(0) as i32
+        spread.saturating_sub_unsigned(loss).max(0)
     }
 }
 
