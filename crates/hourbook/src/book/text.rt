@@ -1,5 +1,5 @@
 //! Lines of text: a letter, then numbers in decimal.
-ghost use Rattle.std.specs.Prelude.{ℕ, ◌∷◌, length};
+ghost use Rattle.std.specs.Prelude.{ℕ, ◌≤◌, ◌∷◌, length};
 ghost use Rattle.std.specs.Fmt.{signed_decimal};
 ghost use Rattle.hourbook.specs.Text.{line_of};
 
@@ -15,9 +15,11 @@ fn put_field<S: Sink>(sink: &mut S, number: i64)
     sink.put(Buffer::new().format(number).as_bytes());
 }
 
+// A line of at most eight fields has at most 200 bytes.
 pub(crate) fn put_line<S: Sink>(sink: &mut S, letter: u8, fields: &[i64])
     requires { S.has_room sink.old (length (line_of letter fields.now)) }
-    ensures { S.took sink.old (line_of letter fields.now) sink.new }
+    ensures line { S.took sink.old (line_of letter fields.now) sink.new }
+    ensures short { length fields.now ≤ 8 → length (line_of letter fields.now) ≤ 200 }
 {
     sink.put(&[letter]);
     for number in fields {

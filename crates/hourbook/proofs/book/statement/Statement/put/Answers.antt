@@ -22,7 +22,7 @@ loop-row-init g c =
     let rest = flat_map entry_line (own c.self.inside.owner c.self.inside.entries.now) ++ balance_line (balance_of (own c.self.inside.owner c.self.inside.entries.now)) in
     subst (λ t. Underway g.S.Sink.has_room g.S.Sink.took c.args.sink.now c.put_line.new.sink t rest) c.self.view_is
     (begun g.met.S.Sink.laws c.args.sink.now c.put_line.new.sink (owner_line c.self.inside.owner) rest room
-    (subst (λ z. g.S.Sink.took c.args.sink.now (line_of 79 (z ∷ [])) c.put_line.new.sink) (to_z-of_z w64 c.from.result f ∙ c.from.ensures) c.put_line.ensures))
+    (subst (λ z. g.S.Sink.took c.args.sink.now (line_of 79 (z ∷ [])) c.put_line.new.sink) (to_z-of_z w64 c.from.result f ∙ c.from.ensures) c.put_line.ensures.line))
 
 pub put_line-requires-then-entry-self : goal.put_line-requires-then-entry-self
 put_line-requires-then-entry-self g c =
@@ -42,7 +42,7 @@ loop-row-preserved g c =
           rw w.sink-is
           (one_more g.met.S.Sink.laws _ c.loop-row.sink _ _ _ _
           (lines_yes _ s.owner s.entries.now i c.loop-row.invariant c.loop-row-test.true (sym c.from-entry.ensures.owner ∙ w.if-entry-self.true))
-          (subst (λ t. g.S.Sink.took c.loop-row.sink t w.put_line-then-entry-self.new.sink) e w.put_line-then-entry-self.ensures))
+          (subst (λ t. g.S.Sink.took c.loop-row.sink t w.put_line-then-entry-self.new.sink) e w.put_line-then-entry-self.ensures.line))
       | else-entry-self w ↦
           rw w.sink-is
           (lines_no _ s.owner s.entries.now i c.loop-row.invariant c.loop-row-test.true (λ h. w.if-entry-self.false (c.from-entry.ensures.owner ∙ h)))
@@ -61,4 +61,4 @@ returns g c =
     let f : SFits w64 s.balance = search rules in
     ended g.met.S.Sink.laws _ c.loop-row.sink _ _ _
     (lines_none _ s.owner s.entries.now c.loop-row.row-index c.loop-row.invariant c.loop-row-test.false)
-    (subst (λ z. g.S.Sink.took c.loop-row.sink (line_of 66 (z ∷ [])) c.put_line-2.new.sink) (to_z-of_z w64 s.balance f ∙ c.self.invariant) c.put_line-2.ensures)
+    (subst (λ z. g.S.Sink.took c.loop-row.sink (line_of 66 (z ∷ [])) c.put_line-2.new.sink) (to_z-of_z w64 s.balance f ∙ c.self.invariant) c.put_line-2.ensures.line)
