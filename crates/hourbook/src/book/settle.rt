@@ -59,7 +59,14 @@ impl OpenBook {
             hour: self.hour,
             region: table.region.get(),
         };
-        write(region, table, income, origin, work, memory, self.used);
+        write(
+            region,
+            table,
+            income,
+            origin,
+            work,
+            &mut memory[self.used..],
+        );
         self.settled = self.settled.with(table.region);
         self.used += entries_needed(income, table);
         Ok(income)

@@ -87,7 +87,7 @@ fn pay(income: i64, parts: &[i64], origin: Origin, table: &Ownership, out: &mut 
     }
 }
 
-// Writes what `judge` accepted: weights and shares into work memory, and the credits into `out` from `at` on.
+// Writes what `judge` accepted: weights and shares into work memory, and the credits into `out`, from the front on.
 pub(crate) fn write<R: Region>(
     region: &R,
     table: &Ownership,
@@ -95,20 +95,13 @@ pub(crate) fn write<R: Region>(
     origin: Origin,
     work: &mut [i64],
     out: &mut [Row],
-    at: usize,
 )
     requires accepted { Accepted (R.meaning region.now) (vec_len table.now.lines) (length work.old) income }
-    requires room { at + needed income table.now ≤ length out.old }
+    requires room { needed income table.now ≤ length out.old }
     ensures work { work.new ≡ written work.old 0 (work_of (R.meaning region.now)) }
-    ensures out { out.new ≡ written out.old at (credits_of origin (R.meaning region.now) table.now) }
+    ensures out { out.new ≡ written out.old 0 (credits_of origin (R.meaning region.now) table.now) }
 {
     let lines = table.lines.len();
     fill_work(region, amount_of(income.max(0)), work);
-    pay(
-        income,
-        &work[lines..2 * lines],
-        origin,
-        table,
-        &mut out[at..],
-    );
+    pay(income, &work[lines..2 * lines], origin, table, out);
 }

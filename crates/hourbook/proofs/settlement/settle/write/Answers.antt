@@ -6,7 +6,6 @@ use Rattle.sharing.specs.Writes.{written}
 use Rattle.sharing.proofs.Lawful.{adds, length-shares}
 use Rattle.hourbook.specs.Worths.{weights, weight, income_of}
 use Rattle.hourbook.specs.Settled.{credit, work_of, paid}
-use Rattle.hourbook.proofs.Rest.{rest_room, written_rest}
 use Rattle.hourbook.proofs.Parts.{second, abs_all, credit_max, credit_small}
 use Rattle.hourbook.proofs.settlement.settle.write.Given as given
 use Rattle.hourbook.proofs.settlement.settle.write.Goals as goal
@@ -70,7 +69,7 @@ pay-requires g c =
       small = rw (sum_is g b) low;
       parts = rw (abs_all ss) (omega (arith, credit_small (income_of m)));
       long = omega (arith, acc.lines, c.args.table.now.lines.ok.0);
-      room = rw (fitted g b) (rest_room c.args.out.now c.args.at _ c.requires.room);
+      room = rw (fitted g b) c.requires.room;
     })
 
 pub returns : goal.returns
@@ -85,7 +84,7 @@ returns g c =
     record {
       work = work_is g b;
       out =
-          written_rest c.args.out.now c.args.at _ c.pay.new.out (omega (arith, c.requires.room)) c.pay.ensures
-          ∙ (ap (λ ss. written c.args.out.now c.args.at (paid origin (to_z w64 (of_z w64 c.args.income)) ss lines owners)) parts
-          ∙ ap (λ z. written c.args.out.now c.args.at (paid origin z (shares t (weights m)) lines owners)) (sum_is g b));
+          c.pay.ensures
+          ∙ (ap (λ ss. written c.args.out.now 0 (paid origin (to_z w64 (of_z w64 c.args.income)) ss lines owners)) parts
+          ∙ ap (λ z. written c.args.out.now 0 (paid origin z (shares t (weights m)) lines owners)) (sum_is g b));
     }
