@@ -1,5 +1,5 @@
 -- Sums that chains of iterators make. Assumes nothing.
-use Rattle.std.proofs.Common.{◌≡◌, ℕ, ◌+◌, ◌*◌, ◌^◌, ◌<◌, ◌≤◌, List, [], ◌∷◌, length, take, ℤ, pos, ◌+ℤ◌, nat_abs, All, FitsSigned, w64, None, Option, sum, fold, sym, refl, ap, ◌∙◌, subst, arith}
+use Rattle.std.proofs.Common.{◌≡◌, ℕ, ◌+◌, ◌*◌, ◌^◌, ◌<◌, ◌≤◌, List, [], ◌∷◌, length, take, ℤ, pos, ◌+ℤ◌, nat_abs, All, FitsSigned, w64, None, Option, fold, sym, refl, ap, ◌∙◌, subst, arith}
 use Rattle.std.specs.Bool.{⊤}
 use Rattle.std.specs.Iterator.{Drains, Yields}
 use Rattle.std.specs.Iterator.Runs.{EachRunFrom, YieldsRun}

@@ -158,9 +158,7 @@ mod tests {
     fn a_negative_income_is_borne_in_equal_shares(rt: HostRuntime) -> Result<(), Fail> {
         let file =
             b"H\x00\x00\x00\x07\x01\x02Z\x00\x00\x00\x0a\x00\x00\x00\x64Z\x00\x00\x00\x00\xff\xff\xff\x9cB\x01\x02\x00\x00\x00\x64L\x01\x00\x01O\x01\x03\x13\x88O\x01\x01\x0a\xe1O\x01\x02\x08\xa7E";
-        let Ok(text) = statements(rt.alloc(), file) else {
-            return Err(Fail::new("refused"));
-        };
+        let text = statements(rt.alloc(), file)?;
         let lines =
             b"O 1\nC 7 1 0 0 -33\nB -33\nO 2\nC 7 1 0 0 -33\nB -33\nO 3\nC 7 1 0 0 -34\nB -34\n";
         assert!(rt; text.as_slice() == lines.as_slice());

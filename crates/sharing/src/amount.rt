@@ -37,6 +37,7 @@ impl Amount {
         let reached = amount * after / whole;
         let given = amount * before / whole;
         Amount {
+            // no `From` makes it; the check proves that nothing is lost
             cents: (reached - given) as u32,
         }
     }
@@ -52,6 +53,7 @@ impl TryFrom<u64> for Amount {
             return Err(SharingFault::Limit);
         }
         Ok(Amount {
+            // no `From` makes it; the check proves that nothing is lost
             cents: cents as u32,
         })
     }

@@ -18,6 +18,7 @@ impl Counting {
         ensures { result ≡ counting_of sum rows }
     {
         if sum == 0 {
+            // no `From` makes it; the check proves that nothing is lost
             Counting::Equal { rows: rows as u64 }
         } else {
             Counting::ByWeight { sum }

@@ -62,6 +62,7 @@ fn spread<X: Copy, R: Weighted, K: Keeping<R, X>>(
 
 // Shares `amount` over the rows by weight. What `keeper` keeps of each row and its share stands in `out` from the
 // place `at` on; every other place keeps its contents. A refusal writes nothing. `fair` says what holds of the shares.
+// Memory and place stay two parameters: no slice begins at a place past the end, which is refused by 11.
 pub fn share<X: Copy, R: Weighted, K: Keeping<R, X>>(
     amount: u64,
     rows: &[R],

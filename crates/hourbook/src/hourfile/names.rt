@@ -50,7 +50,8 @@ impl Names {
             && border.near != border.far
     }
 
-    // The census counts every leg, so that none comes past it.
+    // The census counts every leg, so that none comes past it. This and the next two are parts of `admits`, and answer as
+    // it does.
     fn note_leg(&mut self, leg: &LegRecord) -> bool
         ensures test { IsTrue result ↔ LegNamed self.old leg.now }
         ensures yes { OnTrue result (self.new ≡ leg_noted self.old leg.now) }

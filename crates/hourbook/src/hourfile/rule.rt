@@ -25,7 +25,7 @@ pub(crate) trait Rule: Drop {
     fn fault_at(place: usize) -> FileFault
         ensures { result ≡ fault place };
 
-    // Takes in a record that passes. Another leaves the state as it was.
+    // Takes in a record that passes. Another leaves the state as it was. A `bool`, since nothing stands beside the answer.
     fn admits(&mut self, record: &Record) -> bool
         requires { ready self.old }
         ensures test { IsTrue result ↔ passes self.old «record».now }

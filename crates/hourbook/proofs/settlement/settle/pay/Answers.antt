@@ -1,4 +1,4 @@
-use Rattle.std.proofs.Common.{◌≡◌, map, pos, negsuc, nat_abs, ◌≤ℤ◌, vec_items, ap, ◌∙◌, arith}
+use Rattle.std.proofs.Common.{map, nat_abs, vec_items, ap, ◌∙◌, arith}
 use Rattle.sharing.specs.Writes.{written}
 use Rattle.std.proofs.lemmas.Int.{ints}
 use Rattle.std.proofs.lemmas.List.{length-map}
