@@ -1,24 +1,11 @@
 -- Records collected one after another. Assumes nothing.
-use Rattle.std.proofs.Common.{◌≡◌, ℕ, ◌<◌, List, [], ◌∷◌, ◌++◌, length, sym, refl, ap, ◌∙◌, append_assoc, arith}
-use Rattle.std.specs.List.{flat_map}
-use Rattle.std.proofs.lemmas.List.{flat_map_more}
+use Rattle.std.proofs.Common.{◌≡◌, ℕ, List, [], ◌∷◌, ◌++◌, sym, refl, ap, ◌∙◌}
 use Rattle.std.proofs.lemmas.List.Sums.{fold_push}
 use Rattle.hourbook.specs.declared.hourfile.«record».Record.{Record}
-use Rattle.hourbook.specs.declared.hourfile.«record».Record.TheVariants.{Header, Zone, Border, Leg, Factor, Loss, Owner, End}
 use Rattle.hourbook.specs.Collecting.{Collects}
 use Rattle.hourbook.specs.Encoding.{encoded}
+use Rattle.hourbook.proofs.Passing.{reads_next}
 use Rattle.hourbook.specs.SortedRecords.{Sorted, plus}
-
--- a record takes a byte or more
-pub encoded_some : (x : Record) → 0 < length (encoded x)
-encoded_some (Header x) = omega arith
-encoded_some (Zone x) = omega arith
-encoded_some (Border x) = omega arith
-encoded_some (Leg x) = omega arith
-encoded_some (Factor x) = omega arith
-encoded_some (Loss x) = omega arith
-encoded_some (Owner x) = omega arith
-encoded_some End = omega arith
 
 pub collects_none : (bytes rest : List ℕ) (s : Sorted) → rest ≡ bytes → Collects bytes s s rest
 collects_none bytes rest s e = record { records = []; reads = e; says = refl }
@@ -28,9 +15,6 @@ collects_next bytes start s more rest after x so split told =
     let rs = so.records in
     record {
       records = rs ++ (x ∷ []);
-      reads =
-          ap (λ l. l ++ after) (sym (flat_map_more encoded [] rs x))
-          ∙ (append_assoc (flat_map encoded rs) (encoded x) after
-          ∙ (ap (λ l. flat_map encoded rs ++ l) (sym split) ∙ so.reads));
+      reads = reads_next bytes rs rest after x so.reads split;
       says = told ∙ (ap (λ t. plus t x) so.says ∙ sym (fold_push plus start rs x));
     }

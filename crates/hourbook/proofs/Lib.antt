@@ -7,8 +7,8 @@ pub mod Parts
 pub mod Sinking
 pub mod Owns
 pub mod Stands
-pub mod Collect
 pub mod Passing
+pub mod Collect
 pub mod Sequences
 pub mod HandedOn
 pub mod InTurn

@@ -1,11 +1,10 @@
 -- A pass under way. Assumes nothing.
-use Rattle.std.proofs.Common.{◌≡◌, ℕ, ◌+◌, ◌≤◌, List, [], ◌∷◌, ◌++◌, length, sym, refl, ap, ◌∙◌, append_assoc, arith}
+use Rattle.std.proofs.Common.{◌≡◌, ℕ, ◌+◌, List, [], ◌∷◌, ◌++◌, length, sym, refl, ap, ◌∙◌, append_assoc, arith}
 use Rattle.std.specs.List.{flat_map}
 use Rattle.std.proofs.lemmas.List.{flat_map_more, length-append}
 use Rattle.hourbook.specs.declared.hourfile.«record».Record.{Record}
 use Rattle.hourbook.specs.Encoding.{encoded}
 use Rattle.hourbook.specs.Passes.{Reads, Passed, FirstOut}
-use Rattle.hourbook.proofs.Collect.{encoded_some}
 
 pub reads_next : (bytes : List ℕ) (rs : List Record) (rest after : List ℕ) (x : Record) → Reads bytes rs rest → rest ≡ encoded x ++ after → Reads bytes (rs ++ (x ∷ [])) after
 reads_next bytes rs rest after x so split =
@@ -18,18 +17,16 @@ pub record Passing (bytes rest : List ℕ) (count : ℕ) : Type 0 where
   pub records : List Record
   pub reads : Reads bytes records rest
   pub counted : count ≡ length records
-  pub room : count + length rest ≤ length bytes
 
 module _ (bytes rest : List ℕ) where
   pub passing_start : rest ≡ bytes → Passing bytes rest 0
-  passing_start e = record { records = []; reads = e; counted = refl; room = omega (arith, ap length e) }
+  passing_start e = record { records = []; reads = e; counted = refl }
 
   pub passing_next : (after : List ℕ) (count : ℕ) (x : Record) → Passing bytes rest count → rest ≡ encoded x ++ after → Passing bytes after (count + 1)
   passing_next after count x s split = record {
     records = s.records ++ (x ∷ []);
     reads = reads_next bytes s.records rest after x s.reads split;
     counted = omega (arith, s.counted, length-append s.records (x ∷ []));
-    room = omega (arith, s.room, ap length split, length-append (encoded x) after, encoded_some x);
   }
 
 pub passed_weaker : (P Q : List Record → Type 0) (bytes : List ℕ) → ((rs : List Record) → P rs → Q rs) → Passed P bytes → Passed Q bytes

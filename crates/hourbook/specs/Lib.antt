@@ -21,6 +21,7 @@ pub mod SettlementFaults
 pub mod Settled
 pub mod Encoding
 pub mod Format
+pub mod WholeRecords
 pub mod Kinds
 pub mod Lawful
 pub mod Naming

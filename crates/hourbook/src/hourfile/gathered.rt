@@ -13,7 +13,7 @@ use crate::hourfile::price::Price;
 use crate::hourfile::record::{
     BorderRecord, LegRecord, LossRecord, OwnerRecord, Record, ZoneRecord,
 };
-use crate::hourfile::records::Records;
+use crate::hourfile::records::WholeRecords;
 use std::alloc::Global;
 
 // A leg with its number, which counts from 1 in the order of the file.
@@ -59,15 +59,12 @@ impl Gathered {
         ensures { IfOk result (λ g. Collected bytes.now (census_lines census) (said g)) }
     {
         let mut gathered = Gathered::new(heap, census)?;
-        let mut records = Records::new(bytes);
-        let mut place = 0;
-        // no `for` over `records.by_ref()`: tried, and after one the proof knows nothing of `records`
-        while let Some(record) = records.next() {
-            place += 1;
+        for (before, record) in WholeRecords::new(bytes).enumerate() {
+            let place = before + 1;
+            let Ok(record) = record else {
+                return Err(FileFault::Unread { place });
+            };
             gathered.take(record, place)?;
-        }
-        if !records.is_spent() {
-            return Err(FileFault::Unread { place: place + 1 });
         }
         Ok(gathered)
     }

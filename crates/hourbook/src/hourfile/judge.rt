@@ -25,7 +25,7 @@ use crate::hourfile::names::Names;
 use crate::hourfile::order::Phase;
 use crate::hourfile::ranges::Ranges;
 use crate::hourfile::record::{Header, Record, first_record};
-use crate::hourfile::records::Records;
+use crate::hourfile::records::WholeRecords;
 use crate::hourfile::rule::follow;
 use crate::hourfile::tally::Tally;
 use crate::hourfile::wholeness::{Contributions, Keys, add_up};
@@ -59,14 +59,10 @@ fn whole(bytes: &[u8]) -> Result<(), FileFault>
     ensures rule { MatchResult result (λ _. AllRead bytes.now) (Unreads bytes.now) }
     ensures number { IfErr result (λ e. number_of e ≡ 1) }
 {
-    let mut records = Records::new(bytes);
-    let mut read = 0;
-    // Not `by_ref().count()`, whose contract says nothing of what it leaves unread: the proof does not close.
-    while let Some(_) = records.next() {
-        read += 1;
-    }
-    if !records.is_spent() {
-        return Err(FileFault::Unread { place: read + 1 });
+    for (before, record) in WholeRecords::new(bytes).enumerate() {
+        let Ok(_) = record else {
+            return Err(FileFault::Unread { place: before + 1 });
+        };
     }
     Ok(())
 }

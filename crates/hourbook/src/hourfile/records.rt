@@ -1,12 +1,13 @@
 //! The records of an hour file, one after another.
-ghost use Rattle.std.specs.Prelude.{◌≡◌, ◌++◌, length, MatchOption, ◌==◌};
+ghost use Rattle.std.specs.Prelude.{◌≡◌, ◌++◌, length, MatchOption};
 ghost use Rattle.std.specs.Iterator.{at_most};
 ghost use Rattle.hourbook.specs.Encoding.{encoded};
 ghost use Rattle.hourbook.specs.Format.{Whole};
+ghost use Rattle.hourbook.specs.WholeRecords.{RecordOrCut};
 
 use crate::hourfile::record::{Record, first_record};
 
-// Stops where no whole record stands in front, so what is left tells the end from a cut.
+// The records that the bytes begin with: stops where no whole record stands in front.
 #[derive(Drop)]
 pub(crate) struct Records<'a> {
     rest: &'a [u8],
@@ -17,12 +18,6 @@ impl<'a> Records<'a> {
         ensures { result.rest.now ≡ bytes.now }
     {
         Records { rest: bytes }
-    }
-
-    pub(crate) fn is_spent(&self) -> bool
-        ensures { result ≡ (length self.now.rest.now == 0) }
-    {
-        self.rest.is_empty()
     }
 }
 
@@ -37,5 +32,43 @@ impl<'a> Iterator for Records<'a> {
         let record = first_record(self.rest)?;
         self.rest = &self.rest[record.size()..];
         Some(record)
+    }
+}
+
+// Bytes are left, and no whole record stands in front of them.
+#[derive(Clone, Copy, Debug, PartialEq, Eq)]
+pub(crate) struct Cut;
+
+// All of the bytes as records. A cut comes once, and nothing after it.
+#[derive(Drop)]
+pub(crate) struct WholeRecords<'a> {
+    rest: &'a [u8],
+}
+
+impl<'a> WholeRecords<'a> {
+    pub(crate) fn new(bytes: &'a [u8]) -> WholeRecords<'a>
+        ensures { result.rest.now ≡ bytes.now }
+    {
+        WholeRecords { rest: bytes }
+    }
+}
+
+impl<'a> Iterator for WholeRecords<'a> {
+    type Item = Result<Record, Cut>;
+
+    ghost next_gives = { λ s r t. RecordOrCut s.rest.now r t.rest.now };
+
+    ghost remaining = { λ s. at_most (length s.rest.now) };
+
+    fn next(&mut self) -> Option<Result<Record, Cut>> {
+        if self.rest.is_empty() {
+            return None;
+        }
+        let Some(record) = first_record(self.rest) else {
+            self.rest = &[];
+            return Some(Err(Cut));
+        };
+        self.rest = &self.rest[record.size()..];
+        Some(Ok(record))
     }
 }

@@ -1,5 +1,6 @@
+use Rattle.std.specs.Iterator.Adapters.{enumerate_count, enumerate_source}
 use Rattle.hourbook.proofs.Passing.{Passing}
 use Rattle.hourbook.proofs.hourfile.judge.whole.Given as goal
 
-abbrev pub invariant-loop-read : goal.invariant-loop-read
-invariant-loop-read l = Passing l.bytes l.records.rest.now l.read
+abbrev pub invariant-loop-before : goal.invariant-loop-before
+invariant-loop-before l = Passing l.bytes (enumerate_source l.before-iterator).rest.now (enumerate_count l.before-iterator)
