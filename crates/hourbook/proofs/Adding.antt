@@ -20,12 +20,12 @@ added_bound m a (z ∷ zs) h =
     let rest = added_bound m (a +ℤ z) zs (All-tail (λ x. nat_abs x ≤ m) z zs h) in
     omega (arith, ints, suc-mul (length zs) m)
 
-module _ {S : Type 0} {steps : S → Option ℤ → S → Type 0} (s : S) (all : List ℤ) (road : YieldsList steps (λ z. z) s all) where
+module _ {S : Type 0} {steps : S → Option ℤ → S → Type 0} (s : S) (all : List ℤ) (yields : YieldsList steps (λ z. z) s all) where
   -- what `sum` requires, where the items keep a limit
   pub signed_fits : (m n : ℕ) → All (λ z. nat_abs z ≤ m) all → length all ≤ n → n * m < 2 ^ 63 → EachRunFrom steps s (λ p. FitsSigned w64 (fold ◌+ℤ◌ (pos 0) p.items))
   unfolding YieldsRun
   signed_fits m n small few fits = λ p _ at.
-      let so_far = YieldsList-so_far road p.items p.gave.0.0 (subst (λ u. Yields steps u p.items p.gave.0.0) at p.gave.0.1) in
+      let so_far = YieldsList-so_far yields p.items p.gave.0.0 (subst (λ u. Yields steps u p.items p.gave.0.0) at p.gave.0.1) in
       let items : p.items ≡ take (length p.items) all = sym (map-id p.items) ∙ so_far in
       let low = added_bound m (pos 0) (take (length p.items) all) (All-take (λ z. nat_abs z ≤ m) (length p.items) all small) in
       let most = mul-le (length (take (length p.items) all)) m n m (omega (arith, length-take (length p.items) all)) (omega arith) in
@@ -34,4 +34,4 @@ module _ {S : Type 0} {steps : S → Option ℤ → S → Type 0} (s : S) (all :
   pub signed_sum : (r : ℤ) → ((xs : List ℤ) × (⊤ → Drains steps s xs) × (r ≡ fold ◌+ℤ◌ (pos 0) xs)) → r ≡ sum_z all
   signed_sum r d =
       let end = d.1 tt in
-      d.2 ∙ ap sum_z (sym (map-id d.0) ∙ (YieldsList-end road d.0 end.1.0 end.1.1 None end.0 refl end.1.2).0)
+      d.2 ∙ ap sum_z (sym (map-id d.0) ∙ (YieldsList-end yields d.0 end.1.0 end.1.1 None end.0 refl end.1.2).0)

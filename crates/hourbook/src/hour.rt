@@ -49,6 +49,7 @@ pub(crate) enum Failure {
     Unbuilt,
 }
 
+// By hand, as in `hourfile/fault.rt`: clauses name what a `?` makes.
 impl From<BookFault> for Failure {
     ghost from_gives = { λ e r. r ≡ Refused e };
 

@@ -24,7 +24,7 @@ fn input(rt: &HostRuntime) -> io::Result<Vec<u8>> {
     Ok(bytes)
 }
 
-// Writes the statements in one piece, so that none is written in part.
+// Writes the statements in one piece, so that none is written in part. One match, since a refusal is no failure here.
 fn run(rt: &HostRuntime) -> anyhow::Result<()> {
     let bytes = input(rt)?;
     match statements(rt.alloc(), &bytes) {

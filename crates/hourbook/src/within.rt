@@ -1,14 +1,14 @@
 //! A number within a limit either way.
 ghost use Rattle.std.specs.Prelude.{◌≡◌, ◌≤◌, MatchResult, pos, unsigned_abs};
 
-#[derive(Clone, Copy)]
+#[derive(Clone, Copy, Debug, PartialEq, Eq)]
 pub(crate) struct Within<const LIMIT: u32> {
     value: i32,
     ghost bounded: { unsigned_abs value ≤ LIMIT },
 }
 
 // The number passes the limit.
-#[derive(Clone, Copy)]
+#[derive(Clone, Copy, Debug, PartialEq, Eq)]
 pub(crate) struct OutOfRange;
 
 impl<const LIMIT: u32> TryFrom<i32> for Within<LIMIT> {

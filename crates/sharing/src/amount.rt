@@ -16,8 +16,6 @@ pub struct Amount {
 }
 
 impl Amount {
-    pub const NOTHING: Amount = Amount { cents: 0 };
-
     pub fn cents(self) -> u32
         ensures value { result ≡ self.cents }
         ensures bound { result ≤ 2000000000 }
@@ -37,8 +35,7 @@ impl Amount {
         let reached = amount * after / whole;
         let given = amount * before / whole;
         Amount {
-            // no `From` makes it; the check proves that nothing is lost
-            cents: (reached - given) as u32,
+            cents: u32::try_from(reached - given).unwrap(),
         }
     }
 }
@@ -53,8 +50,7 @@ impl TryFrom<u64> for Amount {
             return Err(SharingFault::Limit);
         }
         Ok(Amount {
-            // no `From` makes it; the check proves that nothing is lost
-            cents: cents as u32,
+            cents: u32::try_from(cents).unwrap(),
         })
     }
 }

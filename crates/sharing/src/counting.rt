@@ -18,8 +18,9 @@ impl Counting {
         ensures { result ≡ counting_of sum rows }
     {
         if sum == 0 {
-            // no `From` makes it; the check proves that nothing is lost
-            Counting::Equal { rows: rows as u64 }
+            Counting::Equal {
+                rows: u64::try_from(rows).unwrap(),
+            }
         } else {
             Counting::ByWeight { sum }
         }

@@ -17,7 +17,8 @@ pub trait Receiving: Weighted {
         ensures { result ≡ receives self.now };
 }
 
-// Rows whose counted weights add to more are not shared over.
+// Rows whose counted weights add to more are not shared over. No type carries this: each contract says it of the rows that
+// it is given, and `weigh` answers a number that callers compare.
 pub const LARGEST_WEIGHT_SUM: u64 = 4_000_000_000;
 
 // A sum with one more weight, unless it is then above `LARGEST_WEIGHT_SUM`.

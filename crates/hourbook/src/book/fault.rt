@@ -62,6 +62,7 @@ impl fmt::Display for BookFault {
     }
 }
 
+// By hand, as in `hourfile/fault.rt`: clauses name what a `?` makes.
 impl From<SettlementFault> for BookFault {
     ghost from_gives = { λ e r. r ≡ Settlement e };
 

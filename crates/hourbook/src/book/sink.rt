@@ -35,7 +35,8 @@ impl Sink for Count {
     }
 }
 
-// Lent memory, filled from its first byte on.
+// Lent memory, filled from its first byte on: the book's calls write into no memory of their own. What std writes with may
+// fail, and does not say when.
 #[derive(Drop)]
 pub(crate) struct Page<'a> {
     memory: &'a mut [u8],

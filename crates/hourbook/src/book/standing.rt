@@ -6,10 +6,10 @@ use crate::entry::kind::EntryKind;
 use crate::entry::row::Row;
 
 // Whether an entry decides if the hour stands.
-fn decides(e: &Row, hour: u32) -> bool
-    ensures { result ≡ (e.now.hour == hour && decides e.now.kind) }
+fn decides_hour(row: &Row, hour: u32) -> bool
+    ensures { result ≡ (row.now.hour == hour && decides row.now.kind) }
 {
-    e.hour == hour && e.kind != EntryKind::Payment
+    row.hour == hour && row.kind != EntryKind::Payment
 }
 
 // An hour stands where the last of its entries of kind C or T has kind C. Looks from the last entry backward.
@@ -19,6 +19,6 @@ pub(crate) fn stands(entries: &[Row], hour: u32) -> bool
     entries
         .iter()
         .rev()
-        .find(|e| decides(e, hour))
-        .is_some_and(|e| e.kind == EntryKind::Credit)
+        .find(|row| decides_hour(row, hour))
+        .is_some_and(|row| row.kind == EntryKind::Credit)
 }

@@ -26,7 +26,7 @@ impl RestingBook {
         ensures memory { out.new ≡ (if is_ok result then over (text owner self.now.used memory.now) out.old else out.old) }
     {
         let entries = used_entries(memory, self.used)?;
-        if owner < 1 || owner > OWNERS {
+        if !(1..=OWNERS).contains(&owner) {
             return Err(BookFault::Owner);
         }
         let statement = Statement::new(entries, owner);

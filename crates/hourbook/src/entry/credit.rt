@@ -13,7 +13,8 @@ pub(crate) struct Origin {
     pub(crate) region: u8,
 }
 
-// Whether shares are received, or borne: the amounts of the latter are negated.
+// Whether shares are received, or borne: the amounts of the latter are negated. No closure: a credit is data, and clauses
+// name its direction.
 #[derive(Clone, Copy, Debug, PartialEq, Eq)]
 pub(crate) enum Direction {
     Received,

@@ -7,7 +7,7 @@ use crate::entry::row::Row;
 use crate::within::Within;
 
 // Its amount lies within two billion cents either way, so that a sum over all entries of a book cannot overflow.
-#[derive(Clone, Copy)]
+#[derive(Clone, Copy, Debug, PartialEq, Eq)]
 pub(crate) struct Entry {
     pub(crate) kind: EntryKind,
     pub(crate) hour: u32,

@@ -8,7 +8,7 @@ use crate::within::{OutOfRange, Within};
 pub(crate) type Capacity = Within<200_000>;
 
 // Near and far are zones, numbered from 1. The capacity is the allocated one.
-#[derive(Clone, Copy)]
+#[derive(Clone, Copy, Debug, PartialEq, Eq)]
 pub(crate) struct Border {
     pub(crate) near: u8,
     pub(crate) far: u8,

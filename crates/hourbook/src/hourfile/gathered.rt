@@ -17,7 +17,7 @@ use crate::hourfile::records::WholeRecords;
 use std::alloc::Global;
 
 // A leg with its number, which counts from 1 in the order of the file.
-#[derive(Clone, Copy)]
+#[derive(Clone, Copy, Debug, PartialEq, Eq)]
 pub(crate) struct NumberedLeg {
     pub(crate) number: u8,
     pub(crate) line: u8,

@@ -7,7 +7,7 @@ use sharing::{Receiving, Weighted, weigh};
 
 const WHOLE: u64 = 10_000;
 
-const MOST_OWNERS: usize = 128;
+const MOST_ROWS: usize = 128;
 
 // One cable or circuit of a line. The keys of its owners, in file order, add to 10,000.
 #[derive(Drop)]
@@ -27,7 +27,7 @@ impl OwnedLeg {
         ensures { MatchOption result (vec_len owners ≤ 128 → key_sum owners.items ≢ 10000) (λ l. (l.number ≡ number) × (l.contribution ≡ contribution) × (l.owners.items ≡ owners.items)) }
     {
         let sum = weigh(owners.as_slice())?;
-        if sum != WHOLE || owners.len() > MOST_OWNERS {
+        if sum != WHOLE || owners.len() > MOST_ROWS {
             return None;
         }
         Some(OwnedLeg {

@@ -5,7 +5,7 @@ use crate::hourfile::record::OwnerRecord;
 use sharing::{Receiving, Weighted};
 
 // One owner's key of a leg, in ten-thousandths.
-#[derive(Clone, Copy)]
+#[derive(Clone, Copy, Debug, PartialEq, Eq)]
 pub(crate) struct OwnerRow {
     pub(crate) owner: u8,
     pub(crate) key: u16,
@@ -41,7 +41,7 @@ impl Receiving for OwnerRow {
 }
 
 // An owner of a region, by number: all share alike.
-#[derive(Clone, Copy)]
+#[derive(Clone, Copy, Debug, PartialEq, Eq)]
 pub(crate) struct Owner {
     pub(crate) number: u8,
 }

@@ -9,9 +9,8 @@ use crate::hourfile::method::Method;
 use crate::hourfile::position::NetPosition;
 use crate::hourfile::price::Price;
 use crate::hourfile::record::{BorderRecord, Record};
+use crate::hourfile::region_number::RegionNumber;
 use crate::hourfile::rule::Rule;
-
-const REGIONS: u8 = 32;
 
 const LARGEST_FACTOR: i16 = 10_000;
 
@@ -51,7 +50,7 @@ impl Record {
         match self {
             Record::Header(header) => {
                 header.hour >= 1
-                    && (1..=REGIONS).contains(&header.region)
+                    && RegionNumber::try_from(header.region).is_ok()
                     && header.method().is_some()
             }
             Record::Zone(zone) => {

@@ -11,6 +11,7 @@ use crate::hourfile::method::Method;
 pub(crate) struct Header {
     pub(crate) hour: u32,
     pub(crate) region: u8,
+    // A number: what is no method is told by rule 4, after rules 1 to 3.
     pub(crate) method: u8,
 }
 

@@ -6,7 +6,7 @@ use crate::within::OutOfRange;
 const REGIONS: u8 = 32;
 
 // From 1 to 32.
-#[derive(Clone, Copy)]
+#[derive(Clone, Copy, Debug, PartialEq, Eq)]
 pub(crate) struct RegionNumber {
     number: u8,
     ghost named: { 1 ≤ number },
@@ -19,7 +19,7 @@ impl TryFrom<u8> for RegionNumber {
     ghost try_from_gives = { λ n r. MatchResult r (λ region. region.number ≡ n) (λ _. 1 ≤ n → n ≤ 32 → ⊥) };
 
     fn try_from(number: u8) -> Result<RegionNumber, OutOfRange> {
-        if number < 1 || number > REGIONS {
+        if !(1..=REGIONS).contains(&number) {
             return Err(OutOfRange);
         }
         Ok(RegionNumber { number })

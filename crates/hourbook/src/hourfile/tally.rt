@@ -16,7 +16,7 @@ const MOST_BORDERS: u8 = 48;
 
 const MOST_LEGS: u8 = 64;
 
-const MOST_OWNERS: u8 = 128;
+const MOST_OWNER_ROWS: u8 = 128;
 
 // Factors and losses are not counted: no leg takes two for a zone, and no line two losses. The limits are no invariant of
 // the type, since the specification also names the tally that passes one.
@@ -69,7 +69,7 @@ impl Rule for Tally {
             Record::Zone(_) => count_one(&mut self.zones, MOST_ZONES),
             Record::Border(_) => count_one(&mut self.borders, MOST_BORDERS),
             Record::Leg(_) => count_one(&mut self.legs, MOST_LEGS),
-            Record::Owner(_) => count_one(&mut self.owners, MOST_OWNERS),
+            Record::Owner(_) => count_one(&mut self.owners, MOST_OWNER_ROWS),
             Record::Header(_) | Record::Factor(_) | Record::Loss(_) | Record::End => true,
         }
     }

@@ -38,6 +38,7 @@ impl RegionFault {
     }
 }
 
+// By hand, as in `hourfile/fault.rt`: clauses name what a `?` makes.
 impl From<FileFault> for RegionFault {
     ghost from_gives = { λ e r. r ≡ File e };
 

@@ -39,7 +39,7 @@ impl Line {
         u64::from(loss) * u64::from(self.leaving_price().unsigned_abs()) / 10_000
     }
 
-    // The line with its loss: all else is as below.
+    // The line with its loss: all else stays.
     fn lessened(self, loss: u16) -> Line
         ensures { result ≡ lossy loss self }
     {

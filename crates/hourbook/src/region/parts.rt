@@ -40,7 +40,8 @@ impl Part for Line {
     ghost few = { λ m h. h.few_lines };
 }
 
-// The parts of a region that are left, from the place `next` on.
+// The parts of a region that are left, from the place `next` on. A type of its own, since no function can answer an
+// `impl Trait`.
 #[derive(Drop)]
 pub(crate) struct Parts<'a, R, P> {
     region: &'a R,

@@ -36,6 +36,7 @@ impl SettlementFault {
     }
 }
 
+// By hand, as in `hourfile/fault.rt`: clauses name what a `?` makes.
 impl From<RegionFault> for SettlementFault {
     ghost from_gives = { λ e r. r ≡ Region e };
 

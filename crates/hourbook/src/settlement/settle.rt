@@ -17,7 +17,8 @@ use crate::settlement::weights::{weigh_all, write_weights};
 use sharing::{Amount, LARGEST_AMOUNT, LARGEST_WEIGHT_SUM, Plain};
 
 // The income of a region that can be settled with this table and so many places of work memory.
-// Region and table stay two parameters: a caller is lent each by itself, and a clause names the one or the other.
+// Region and table stay two parameters, as they are lent to the book's call: a struct of both would be taken apart at once,
+// since a clause names the one or the other.
 pub(crate) fn judge<R: Region>(
     region: &R,
     table: &Ownership,
@@ -34,14 +35,14 @@ pub(crate) fn judge<R: Region>(
     if room < 2 * lines {
         return Err(SettlementFault::Work);
     }
-    let sum = income(region);
-    if sum.unsigned_abs() > LARGEST_AMOUNT {
+    let income = income(region);
+    if income.unsigned_abs() > LARGEST_AMOUNT {
         return Err(SettlementFault::Limit);
     }
     if weigh_all(region) > LARGEST_WEIGHT_SUM {
         return Err(SettlementFault::Limit);
     }
-    Ok(sum)
+    Ok(income)
 }
 
 // How many entries an income takes.

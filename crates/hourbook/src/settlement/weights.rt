@@ -36,8 +36,8 @@ pub(crate) fn write_weights<R: Region>(region: &R, work: &mut [i64]) -> ArrayVec
     ensures work { work.new ≡ written work.old 0 (map pos (weights (R.meaning region.now))) }
 {
     let mut rows = ArrayVec::new();
-    // By place, since a proof knows nothing of a slice that was written through a zip. No `From` makes the two casts; the
-    // check proves that nothing is lost.
+    // By place, since a proof knows nothing of a slice that was written through a zip. Casts, since with `try_from` and
+    // `cast_signed` the loop's proof did not close.
     for (k, line) in region.lines().enumerate() {
         let weight = line.weight();
         rows.push(LineRow {

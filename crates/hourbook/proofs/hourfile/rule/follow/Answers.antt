@@ -1,9 +1,6 @@
 use Rattle.std.proofs.Common.{sym, refl, ap, ◌+◌, ◌∙◌, true≢false}
-use Rattle.hourbook.proofs.InTurn.{following_next, following_out, following_start}
+use Rattle.hourbook.proofs.InTurn.{following_next, following_out}
 use Rattle.hourbook.proofs.hourfile.rule.follow.Goals as goal
-
-pub loop-before-init : goal.loop-before-init
-loop-before-init g c = record { follows = following_start _ _ _ _ _ _ _ (cc) (cc) refl; ready = c.requires }
 
 pub returns-then-not-admits-clause-first : goal.returns-then-not-admits-clause-first
 returns-then-not-admits-clause-first g c =

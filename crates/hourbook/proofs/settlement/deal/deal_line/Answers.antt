@@ -10,7 +10,7 @@ use Rattle.sharing.proofs.Cells.{cells_plain}
 use Rattle.hourbook.specs.declared.hourfile.owned_leg.OwnedLeg.{OwnedLeg}
 use Rattle.hourbook.specs.Deals.{leg_deal}
 use Rattle.hourbook.specs.Legs.{contributions}
-use Rattle.hourbook.proofs.Dealing.{some_rows, dealing_start, dealing_small, dealing_room, dealing_next}
+use Rattle.hourbook.proofs.Dealing.{some_rows, dealing_start, dealing_small, dealing_next}
 use Rattle.hourbook.proofs.Parts.{abs_all}
 use Rattle.hourbook.proofs.settlement.deal.deal_line.Goals as goal
 
@@ -56,12 +56,6 @@ amount_of-requires c =
     let small = dealing_small (nat_abs part) c.loop-leg.invariant left.0 (part_more left.0 left.1 refl) in
     let same : to_z w64 (of_z w64 part) ≡ part = to_z-of_z w64 part (omega (arith, ints)) in
     rw same small
-
-pub deal_leg-count-requires : goal.deal_leg-count-requires
-unfolding parts_of
-deal_leg-count-requires c =
-    let left = c.in-Some.ensures.steps in
-    dealing_room c.amount_of.result.cents c.loop-leg.invariant left.0 (part_more left.0 left.1 (search rules))
 
 pub loop-leg-preserved : goal.loop-leg-preserved
 unfolding parts_of

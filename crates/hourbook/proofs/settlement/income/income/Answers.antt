@@ -20,24 +20,24 @@ worths_small m h = All-map (λ z. unsigned_abs z ≤ 500000000000) worth m.zones
 pub sum-sum-requires-clause-can : goal.sum-sum-requires-clause-can
 sum-sum-requires-clause-can g c =
     let zones = (g.R.Region.meaning c.args.region.now).zones in
-    let road = YieldsList-at c.map.ensures.source (YieldsList-from_first (λ x. x) (λ s. drop s.next (g.R.Region.meaning s.region.now).zones) zones c.zones.ensures) in
+    let yields = YieldsList-at c.map.ensures.source (YieldsList-from_first (λ x. x) (λ s. drop s.next (g.R.Region.meaning s.region.now).zones) zones c.zones.ensures) in
     let bounded = (g.met.R.Region.bounded c.args.region.now).each_zone in
-    (tt, serves_from_places road (λ x q h. search rules) (λ x k h e. let fits : ZoneBounded x = subst ZoneBounded (sym e) (bounded k x h) in search rules))
+    (tt, serves_from_places yields (λ x q h. search rules) (λ x k h e. let fits : ZoneBounded x = subst ZoneBounded (sym e) (bounded k x h) in search rules))
 
 pub sum-sum-requires-clause-fits : goal.sum-sum-requires-clause-fits
 sum-sum-requires-clause-fits g c =
     let m = g.R.Region.meaning c.args.region.now in
     let bounded = g.met.R.Region.bounded c.args.region.now in
-    let road = YieldsList-from_map _ worth (YieldsList-at c.map.ensures.source (YieldsList-from_first (λ x. x) (λ s. drop s.next (g.R.Region.meaning s.region.now).zones) m.zones c.zones.ensures)) c.map.ensures.closure (λ x r q k. (search rules, grind (arith, ints, to_z-of_z, k))) in
-    signed_fits c.map.result (worths m) road 500000000000 16 (worths_small m bounded) (omega (arith, length-map m.zones worth, bounded.few_zones)) (omega arith)
+    let yields = YieldsList-from_map _ worth (YieldsList-at c.map.ensures.source (YieldsList-from_first (λ x. x) (λ s. drop s.next (g.R.Region.meaning s.region.now).zones) m.zones c.zones.ensures)) c.map.ensures.closure (λ x r q k. (search rules, grind (arith, ints, to_z-of_z, k))) in
+    signed_fits c.map.result (worths m) yields 500000000000 16 (worths_small m bounded) (omega (arith, length-map m.zones worth, bounded.few_zones)) (omega arith)
 
 -- the sum is that of the zones' worths, which is small
 summed : (g : given.Over) (c : goal.After-sum-sum g) → (c.sum-sum.result ≡ sum_z (worths (g.R.Region.meaning c.args.region.now))) × (unsigned_abs c.sum-sum.result ≤ 16 * 500000000000)
 summed g c =
     let m = g.R.Region.meaning c.args.region.now in
     let bounded = g.met.R.Region.bounded c.args.region.now in
-    let road = YieldsList-from_map _ worth (YieldsList-at c.map.ensures.source (YieldsList-from_first (λ x. x) (λ s. drop s.next (g.R.Region.meaning s.region.now).zones) m.zones c.zones.ensures)) c.map.ensures.closure (λ x r q k. (search rules, grind (arith, ints, to_z-of_z, k))) in
-    let all = signed_sum c.map.result (worths m) road c.sum-sum.result c.sum-sum.ensures.ran in
+    let yields = YieldsList-from_map _ worth (YieldsList-at c.map.ensures.source (YieldsList-from_first (λ x. x) (λ s. drop s.next (g.R.Region.meaning s.region.now).zones) m.zones c.zones.ensures)) c.map.ensures.closure (λ x r q k. (search rules, grind (arith, ints, to_z-of_z, k))) in
+    let all = signed_sum c.map.result (worths m) yields c.sum-sum.result c.sum-sum.ensures.ran in
     let low = added_bound 500000000000 (pos 0) (worths m) (worths_small m bounded) in
     let few = mul-le (length (worths m)) 500000000000 16 500000000000 (omega (arith, length-map m.zones worth, bounded.few_zones)) (omega arith) in
     (all, rw all (omega (arith, low, few)))

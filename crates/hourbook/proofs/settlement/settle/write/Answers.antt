@@ -43,14 +43,6 @@ module _ (g : given.Over) (c : goal.After-fill_work g) where
       let long : length ws ≡ n = omega (arith, l, c.requires.accepted.lines, c.len-lines.ensures, c.args.table.now.lines.ok.0) in
       ap (λ w. take (2 * n - n) (drop n w)) work_is ∙ second c.args.work.now ws (shares t ws) n long (length-shares t ws ∙ long)
 
-pub fill_work-requires : goal.fill_work-requires
-fill_work-requires g c =
-    let acc = c.requires.accepted in
-    record {
-      light = acc.light;
-      room = acc.room;
-    }
-
 pub pay-requires : goal.pay-requires
 pay-requires g c =
     let m = g.R.Region.meaning c.args.region.now in

@@ -9,19 +9,19 @@ use Rattle.hourbook.proofs.settlement.weights.weigh_all.Goals as goal
 pub sum-requires-clause-can : goal.sum-requires-clause-can
 sum-requires-clause-can g c =
     let lines = (g.R.Region.meaning c.args.region.now).lines in
-    let road = YieldsList-at c.map.ensures.source (YieldsList-from_first (λ x. x) (λ s. drop s.next (g.R.Region.meaning s.region.now).lines) lines c.lines.ensures) in
+    let yields = YieldsList-at c.map.ensures.source (YieldsList-from_first (λ x. x) (λ s. drop s.next (g.R.Region.meaning s.region.now).lines) lines c.lines.ensures) in
     let bounded = (g.met.R.Region.bounded c.args.region.now).each_line in
-    (tt, serves_from_places road (λ x q h. search rules) (λ x k h e. let fits : LineBounded x = subst LineBounded (sym e) (bounded k x h) in search rules))
+    (tt, serves_from_places yields (λ x q h. search rules) (λ x k h e. let fits : LineBounded x = subst LineBounded (sym e) (bounded k x h) in search rules))
 
 pub sum-requires-clause-fits : goal.sum-requires-clause-fits
 sum-requires-clause-fits g c =
     let lines = (g.R.Region.meaning c.args.region.now).lines in
     let few = (g.met.R.Region.bounded c.args.region.now).few_lines in
-    let road = YieldsList-at c.map.ensures.source (YieldsList-from_first (λ x. x) (λ s. drop s.next (g.R.Region.meaning s.region.now).lines) lines c.lines.ensures) in
-    fits_from_length _ _ 64 _ (at_most_from_yields_List road few) c.map.ensures.closure (omega arith) (λ x r q k. search (rules, tests))
+    let yields = YieldsList-at c.map.ensures.source (YieldsList-from_first (λ x. x) (λ s. drop s.next (g.R.Region.meaning s.region.now).lines) lines c.lines.ensures) in
+    fits_from_length _ _ 64 _ (at_most_from_yields_List yields few) c.map.ensures.closure (omega arith) (λ x r q k. search (rules, tests))
 
 pub returns : goal.returns
 returns g c =
     let lines = (g.R.Region.meaning c.args.region.now).lines in
-    let road = YieldsList-at c.map.ensures.source (YieldsList-from_first (λ x. x) (λ s. drop s.next (g.R.Region.meaning s.region.now).lines) lines c.lines.ensures) in
-    sum_from_yields_List c.map.result _ c.sum.ensures.ran (YieldsList-from_map _ weight road c.map.ensures.closure (λ x r q k. search rules))
+    let yields = YieldsList-at c.map.ensures.source (YieldsList-from_first (λ x. x) (λ s. drop s.next (g.R.Region.meaning s.region.now).lines) lines c.lines.ensures) in
+    sum_from_yields_List c.map.result _ c.sum.ensures.ran (YieldsList-from_map _ weight yields c.map.ensures.closure (λ x r q k. search rules))

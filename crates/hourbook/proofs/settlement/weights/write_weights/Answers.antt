@@ -21,8 +21,8 @@ turn g c =
     let lines = (g.R.Region.meaning c.args.region.now).lines in
     let n = length c.loop-k.yielded in
     let item : ℕ × Line = (c.in-Some.k, c.in-Some.line) in
-    let road = YieldsList-at c.into_iter-k-iterator.ensures.into_iter_gives (YieldsList-from_enumerate (YieldsList-at c.enumerate-k-items.ensures.source (YieldsList-from_first (λ x. x) (λ s. drop s.next (g.R.Region.meaning s.region.now).lines) lines c.lines.ensures)) c.enumerate-k-items.ensures.count) in
-    let at = YieldsList-turn road c.loop-k.yielded c.loop-k.k-iterator c.loop-k.yielded_by c.next.result c.next.new.self item c.in-Some.is c.next.ensures.steps in
+    let yields = YieldsList-at c.into_iter-k-iterator.ensures.into_iter_gives (YieldsList-from_enumerate (YieldsList-at c.enumerate-k-items.ensures.source (YieldsList-from_first (λ x. x) (λ s. drop s.next (g.R.Region.meaning s.region.now).lines) lines c.lines.ensures)) c.enumerate-k-items.ensures.count) in
+    let at = YieldsList-turn yields c.loop-k.yielded c.loop-k.k-iterator c.loop-k.yielded_by c.next.result c.next.new.self item c.in-Some.is c.next.ensures.steps in
     let h : n < length lines = omega (arith, length-enumerate_from 0 lines, at.0) in
     (h, at.1 ∙ (get_or-enumerate_from 0 lines n item h ∙ ap (λ i. (i, get_or lines n c.in-Some.line)) (omega arith)))
 
@@ -73,8 +73,8 @@ pub returns : goal.returns
 returns g c =
     let m = g.R.Region.meaning c.args.region.now in
     let ws = weights m in
-    let road = YieldsList-at c.into_iter-k-iterator.ensures.into_iter_gives (YieldsList-from_enumerate (YieldsList-at c.enumerate-k-items.ensures.source (YieldsList-from_first (λ x. x) (λ s. drop s.next (g.R.Region.meaning s.region.now).lines) m.lines c.lines.ensures)) c.enumerate-k-items.ensures.count) in
-    let end = YieldsList-end road c.loop-k.yielded c.loop-k.k-iterator c.loop-k.yielded_by c.next.result c.next.new.self c.in-None.is c.next.ensures.steps in
+    let yields = YieldsList-at c.into_iter-k-iterator.ensures.into_iter_gives (YieldsList-from_enumerate (YieldsList-at c.enumerate-k-items.ensures.source (YieldsList-from_first (λ x. x) (λ s. drop s.next (g.R.Region.meaning s.region.now).lines) m.lines c.lines.ensures)) c.enumerate-k-items.ensures.count) in
+    let end = YieldsList-end yields c.loop-k.yielded c.loop-k.k-iterator c.loop-k.yielded_by c.next.result c.next.new.self c.in-None.is c.next.ensures.steps in
     let n = length c.loop-k.yielded in
     let all : length ws ≤ n = omega (arith, length-map m.lines weight, length-enumerate_from 0 m.lines, end.1) in
     let rows : length (line_rows_from 1 ws) ≤ n = omega (arith, length_rows 1 ws) in

@@ -21,14 +21,14 @@ sum-requires-clause-fits c =
     let s = c.args.self.now in
     let borders = s.borders.items in
     let out = at_zone c.args.zone in
-    let road = YieldsList-from_map _ out (YieldsList-at c.map.ensures.source (YieldsList-from_slice borders cc)) c.map.ensures.closure (λ x r q k. (grind (arith, k), grind (arith, ints, to_z-of_z, k))) in
+    let yields = YieldsList-from_map _ out (YieldsList-at c.map.ensures.source (YieldsList-from_slice borders cc)) c.map.ensures.closure (λ x r q k. (grind (arith, k), grind (arith, ints, to_z-of_z, k))) in
     let small = All-map (λ z. unsigned_abs z ≤ 400000) out borders (λ k b h. at_zone_small c.args.zone (get_or borders k b)) in
-    signed_fits c.map.result (map out borders) road 400000 48 small (omega (arith, length-map borders out, s.few_borders, s.borders.ok.0)) (omega arith)
+    signed_fits c.map.result (map out borders) yields 400000 48 small (omega (arith, length-map borders out, s.few_borders, s.borders.ok.0)) (omega arith)
 
 pub returns : goal.returns
 returns c =
     let borders = c.args.self.now.borders.items in
     let out = at_zone c.args.zone in
-    let road = YieldsList-from_map _ out (YieldsList-at c.map.ensures.source (YieldsList-from_slice borders cc)) c.map.ensures.closure (λ x r q k. (grind (arith, k), grind (arith, ints, to_z-of_z, k))) in
-    let all = signed_sum c.map.result (map out borders) road c.sum.result c.sum.ensures.ran in
+    let yields = YieldsList-from_map _ out (YieldsList-at c.map.ensures.source (YieldsList-from_slice borders cc)) c.map.ensures.closure (λ x r q k. (grind (arith, k), grind (arith, ints, to_z-of_z, k))) in
+    let all = signed_sum c.map.result (map out borders) yields c.sum.result c.sum.ensures.ran in
     grind (arith, ints, to_z-of_z)

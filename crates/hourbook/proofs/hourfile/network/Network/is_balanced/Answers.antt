@@ -48,6 +48,6 @@ pub returns-then-position_sum-eq0 : goal.returns-then-position_sum-eq0
 returns-then-position_sum-eq0 c =
     let ns = c.args.self.now.positions.items in
     let bs = c.args.self.now.borders.items in
-    let road = YieldsList-from_enumerate (YieldsList-at c.enumerate.ensures.source (YieldsList-from_slice ns cc)) (cc) in
-    let found = cases_from_all _ _ _ (Met ns bs) (λ p. Met ns bs p → ⊥) c.all.ensures.ran road (λ x q k. search (rules, tests)) (λ x q k. search (rules, tests)) in
+    let yields = YieldsList-from_enumerate (YieldsList-at c.enumerate.ensures.source (YieldsList-from_slice ns cc)) (cc) in
+    let found = cases_from_all _ _ _ (Met ns bs) (λ p. Met ns bs p → ⊥) c.all.ensures.ran yields (λ x q k. search (rules, tests)) (λ x q k. search (rules, tests)) in
     balance_decided ns bs c.all.result (omega (arith, ints)) found

@@ -12,13 +12,13 @@ pub sum-requires-clause-fits : goal.sum-requires-clause-fits
 sum-requires-clause-fits c =
     let s = c.args.self.now in
     let positions = s.positions.items in
-    let road = YieldsList-from_map _ (λ p. p.value) (YieldsList-at c.map.ensures.source (YieldsList-from_slice positions cc)) c.map.ensures.closure (λ x r q k. (search (rules, tests), grind (arith, ints, to_z-of_z, k))) in
+    let yields = YieldsList-from_map _ (λ p. p.value) (YieldsList-at c.map.ensures.source (YieldsList-from_slice positions cc)) c.map.ensures.closure (λ x r q k. (search (rules, tests), grind (arith, ints, to_z-of_z, k))) in
     let small = All-map (λ z. unsigned_abs z ≤ 1000000) (λ p. p.value) positions (λ k p h. (get_or positions k p).bounded) in
-    signed_fits c.map.result (tenths_of positions) road 1000000 16 small (omega (arith, length-map positions (λ p. p.value), s.few_zones, s.positions.ok.0)) (omega arith)
+    signed_fits c.map.result (tenths_of positions) yields 1000000 16 small (omega (arith, length-map positions (λ p. p.value), s.few_zones, s.positions.ok.0)) (omega arith)
 
 pub returns : goal.returns
 returns c =
     let positions = c.args.self.now.positions.items in
-    let road = YieldsList-from_map _ (λ p. p.value) (YieldsList-at c.map.ensures.source (YieldsList-from_slice positions cc)) c.map.ensures.closure (λ x r q k. (search (rules, tests), grind (arith, ints, to_z-of_z, k))) in
-    let all = signed_sum c.map.result (tenths_of positions) road c.sum.result c.sum.ensures.ran in
+    let yields = YieldsList-from_map _ (λ p. p.value) (YieldsList-at c.map.ensures.source (YieldsList-from_slice positions cc)) c.map.ensures.closure (λ x r q k. (search (rules, tests), grind (arith, ints, to_z-of_z, k))) in
+    let all = signed_sum c.map.result (tenths_of positions) yields c.sum.result c.sum.ensures.ran in
     grind (arith, ints, to_z-of_z)

@@ -1,8 +1,7 @@
-use Rattle.std.proofs.Common.{◌≡◌, vec_items, sym, ◌∙◌, arith, rules}
+use Rattle.std.proofs.Common.{◌≡◌, vec_items, arith, rules}
 use Rattle.std.specs.List.{sum_by}
 use Rattle.std.proofs.iter.runs.Made.{chains}
 use Rattle.hourbook.specs.OwnerRows.{leg_rows}
-use Rattle.std.proofs.lemmas.List.Sums.{sum-map}
 use Rattle.hourbook.proofs.Counted.{few_leg_rows}
 use Rattle.hourbook.proofs.hourfile.owned_line.OwnedLine.row_count.Goals as goal
 
@@ -11,12 +10,6 @@ sum-requires-clause-fits c =
     let legs = vec_items c.args.self.now.legs in
     let few = few_leg_rows legs in
     search (rules, chains)
-
-pub returns-clause-is : goal.returns-clause-is
-returns-clause-is c =
-    let legs = vec_items c.args.self.now.legs in
-    let all : c.sum.result ≡ sum_by leg_rows legs = search (rules, chains) in
-    all ∙ sym (sum-map leg_rows legs)
 
 pub returns-clause-few : goal.returns-clause-few
 returns-clause-few c =

@@ -1,15 +1,8 @@
-use Rattle.std.proofs.Common.{◌≡◌, ◌∙◌, sym, ap, Some, None}
+use Rattle.std.proofs.Common.{◌≡◌, ◌∙◌, sym, ap, Some}
 use Rattle.std.proofs.lemmas.Option.{slice_get-map}
 use Rattle.std.specs.List.{slice_get}
 use Rattle.hourbook.proofs.Nths.{copied_from_item, sound}
 use Rattle.hourbook.proofs.region.coordinated.CoordinatedRegion.line.Goals as goal
-
-pub returns-in_err-border : goal.returns-in_err-border
-returns-in_err-border c =
-    let s = c.args.self.now in
-    let v = sound s.verdict (sym c.ok.ensures.value ∙ c.in_ok-ok.was) in
-    let border : None ≡ slice_get s.network.now.borders.items c.args.k = rw c.borders.ensures.value at (copied_from_item c.borders.result.now c.args.k None c.in_err-border.ensures.lookup) in
-    simp (v, slice_get-map, sym border) c.from_residual-in_err-border.ensures
 
 pub returns : goal.returns
 returns c =
