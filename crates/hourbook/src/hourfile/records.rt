@@ -7,34 +7,6 @@ ghost use Rattle.hourbook.specs.WholeRecords.{RecordOrCut};
 
 use crate::hourfile::record::{Record, first_record};
 
-// The records that the bytes begin with: stops where no whole record stands in front.
-#[derive(Drop)]
-pub(crate) struct Records<'a> {
-    rest: &'a [u8],
-}
-
-impl<'a> Records<'a> {
-    pub(crate) fn new(bytes: &'a [u8]) -> Records<'a>
-        ensures { result.rest.now ≡ bytes.now }
-    {
-        Records { rest: bytes }
-    }
-}
-
-impl<'a> Iterator for Records<'a> {
-    type Item = Record;
-
-    ghost next_gives = { λ s r t. MatchOption r ((Whole s.rest.now → ⊥) × (t.rest.now ≡ s.rest.now)) (λ x. s.rest.now ≡ encoded x ++ t.rest.now) };
-
-    ghost remaining = { λ s. at_most (length s.rest.now) };
-
-    fn next(&mut self) -> Option<Record> {
-        let record = first_record(self.rest)?;
-        self.rest = &self.rest[record.size()..];
-        Some(record)
-    }
-}
-
 // Bytes are left, and no whole record stands in front of them.
 #[derive(Clone, Copy, Debug, PartialEq, Eq)]
 pub(crate) struct Cut;
@@ -70,5 +42,33 @@ impl<'a> Iterator for WholeRecords<'a> {
         };
         self.rest = &self.rest[record.size()..];
         Some(Ok(record))
+    }
+}
+
+// The records that the bytes begin with, up to a cut.
+#[derive(Drop)]
+pub(crate) struct Records<'a> {
+    all: WholeRecords<'a>,
+}
+
+impl<'a> Records<'a> {
+    pub(crate) fn new(bytes: &'a [u8]) -> Records<'a>
+        ensures { result.all.rest.now ≡ bytes.now }
+    {
+        Records {
+            all: WholeRecords::new(bytes),
+        }
+    }
+}
+
+impl<'a> Iterator for Records<'a> {
+    type Item = Record;
+
+    ghost next_gives = { λ s r t. MatchOption r (Whole s.all.rest.now → ⊥) (λ x. s.all.rest.now ≡ encoded x ++ t.all.rest.now) };
+
+    ghost remaining = { λ s. at_most (length s.all.rest.now) };
+
+    fn next(&mut self) -> Option<Record> {
+        self.all.next()?.ok()
     }
 }
