@@ -35,3 +35,13 @@ module _ {S : Type 0} {steps : S → Option ℤ → S → Type 0} (s : S) (all :
   signed_sum r d =
       let end = d.1 tt in
       d.2 ∙ ap sum_z (sym (map-id d.0) ∙ (YieldsList-end yields d.0 end.1.0 end.1.1 None end.0 refl end.1.2).0)
+
+sum_z_from : (a : ℤ) (zs : List ℤ) → fold ◌+ℤ◌ a zs ≡ a +ℤ sum_z zs
+sum_z_from a [] = omega (arith, ints)
+sum_z_from a (z ∷ zs) =
+    let more = sum_z_from (a +ℤ z) zs in
+    let first = sum_z_from (pos 0 +ℤ z) zs in
+    omega (arith, ints)
+
+pub sum_z-cons : (z : ℤ) (zs : List ℤ) → sum_z (z ∷ zs) ≡ z +ℤ sum_z zs
+sum_z-cons z zs = let first = sum_z_from (pos 0 +ℤ z) zs in omega (arith, ints)

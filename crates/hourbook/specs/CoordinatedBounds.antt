@@ -1,6 +1,6 @@
 -- That what tables of the coordinated method stand for keeps its limits. Assumes nothing. It stands here, since the law
 -- of an impl can cite nothing in proofs/.
-use Rattle.std.specs.Prelude.{ℕ, zero, suc, ◌-◌, ◌≤◌, List, [], ◌∷◌, ℤ, pos, negsuc, Ok, Err, vec_items, Result, All, slice_index_or, unsigned_abs}
+use Rattle.std.specs.Prelude.{ℕ, zero, suc, ◌-◌, ◌≤◌, List, [], ◌∷◌, map, length, ℤ, pos, negsuc, Ok, Err, vec_items, Result, All, slice_index_or, unsigned_abs}
 use Rattle.std.proofs.Common.{arith}
 use Rattle.std.proofs.lemmas.List.{length-map}
 use Rattle.std.proofs.lemmas.List.Elements.{All-nil, All-cons, All-map}
@@ -38,6 +38,12 @@ each_zone [] ns = All-nil ZoneBounded
 each_zone (p ∷ ps) [] = All-nil ZoneBounded
 each_zone (p ∷ ps) (n ∷ ns) = All-cons ZoneBounded _ _ (record { price = p.bounded; position = n.bounded }) (each_zone ps ns)
 
+each_line : (ps : List Price) (bs : List Border) → All LineBounded (map (border_line (cents_of ps)) bs)
+each_line ps bs = All-map LineBounded (border_line (cents_of ps)) bs (λ k b _. line_bounded ps (slice_index_or bs k b))
+
+pub zones_few : (ps ns : List ℤ) → length (zones_of ps ns) ≤ length ns
+zones_few ps ns = simp (length-map, length-zip) (omega arith)
+
 pub coordinated_bounded : (network : Network) (prices : Prices) (verdict : Result (Unit {0}) Flaw) → Bounded (coordinated_means (cents_of (vec_items prices.list)) (tenths_of (vec_items network.positions)) (vec_items network.borders) verdict)
 coordinated_bounded network prices (Ok _) =
     let ps : List Price = vec_items prices.list in
@@ -48,7 +54,7 @@ coordinated_bounded network prices (Ok _) =
       few_zones = simp (length-map, length-zip) (omega (arith, network.positions.ok.0));
       few_lines = simp length-map (omega (arith, network.borders.ok.0));
       each_zone = each_zone ps ns;
-      each_line = All-map LineBounded (border_line (cents_of ps)) (vec_items network.borders) (λ k b _. line_bounded ps (slice_index_or (vec_items network.borders) k b));
+      each_line = each_line ps (vec_items network.borders);
     }
 coordinated_bounded network prices (Err flaw) = record {
   few_zones = omega arith;

@@ -66,7 +66,7 @@ impl Ownership {
     ) -> Result<Ownership, FileFault>
         ensures { IfOk result (λ t. (t.region.number ≡ region) × (t.lines.items ≡ lines.items)) }
     {
-        let region = RegionNumber::try_from(region).map_err(|_| FileFault::Range { place: 1 })?;
+        let region = RegionNumber::try_from(region).map_err(|_| FileFault::Keys { leg: 0 })?;
         if lines.is_empty() || lines.len() > MOST_LINES {
             return Err(FileFault::Keys { leg: 0 });
         }

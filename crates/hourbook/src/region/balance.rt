@@ -16,7 +16,7 @@ impl Border {
     // Its capacity, where an end is the zone.
     fn capacity_in(&self, end: u8, zone: usize) -> i64
         ensures value { result ≡ only end zone self.now.capacity.value }
-        ensures bound { unsigned_abs result ≤ 200000 }
+        ensures bound { unsigned_abs result ≤ unsigned_abs self.now.capacity.value }
     {
         if usize::from(end) == zone {
             i64::from(self.capacity.get())

@@ -18,7 +18,8 @@ pub(crate) trait Region {
         ensures { result ≡ (meaning self.now).verdict };
 
     fn zone_count(&self) -> usize
-        ensures { result ≡ length (meaning self.now).zones };
+        ensures value { result ≡ length (meaning self.now).zones }
+        ensures few { result ≤ 16 };
 
     fn zone(&self, k: usize) -> Option<Zone>
         ensures { result ≡ slice_get (meaning self.now).zones k };
