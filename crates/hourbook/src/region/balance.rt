@@ -1,5 +1,5 @@
 //! Whether the tables of the coordinated method are sound.
-ghost use Rattle.std.specs.Prelude.{sum, ◌≡◌, ◌≤◌, map, Decides, unsigned_abs};
+ghost use Rattle.std.specs.Prelude.{sum, ◌≡◌, ◌≤◌, map, ◌↔◌, IsTrue, unsigned_abs};
 ghost use Rattle.hourbook.specs.SignedSums.{sum_z};
 ghost use Rattle.hourbook.specs.Tables.{tenths_of};
 ghost use Rattle.hourbook.specs.Balance.{only, at_zone, net_capacity, Balanced, Judged};
@@ -65,14 +65,14 @@ impl Network {
 
     // Whether a zone's net position is what the capacities take out of it.
     fn is_met(&self, zone: usize, position: &NetPosition) -> bool
-        ensures { Decides result (position.now.value ≡ net_capacity zone self.now.borders.items) }
+        ensures { IsTrue result ↔ (position.now.value ≡ net_capacity zone self.now.borders.items) }
     {
         i64::from(position.get()) == self.capacity_out(zone)
     }
 
     // Whether net positions add to 0, and each is what the capacities take out of its zone.
     fn is_balanced(&self) -> bool
-        ensures { Decides result (Balanced (tenths_of self.now.positions.items) self.now.borders.items) }
+        ensures { IsTrue result ↔ Balanced (tenths_of self.now.positions.items) self.now.borders.items }
     {
         self.position_sum() == 0
             && self
