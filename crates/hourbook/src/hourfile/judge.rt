@@ -149,6 +149,7 @@ mod tests {
     fn file(heap: Global, zones: usize, price: i32, rest: &[u8]) -> Result<Vec<u8>, AllocError> {
         let mut bytes = Vec::new(heap);
         bytes.extend_from_slice(b"H\x00\x00\x00\x01\x01\x01")?;
+        // so many times, which index no list
         for _ in 0..zones {
             bytes.push(b'Z')?;
             bytes.extend_from_slice(&price.to_be_bytes())?;

@@ -104,6 +104,7 @@ pub(crate) fn add_up<R: SumRule>(bytes: &[u8], last: u8) -> Result<(), FileFault
     ensures { MatchResult result (λ _. AllAddUp R.adds R.suffices bytes.now last) (FirstShort R.adds R.suffices R.fault bytes.now last) }
 {
     let sums = sums_of::<R>(bytes);
+    // the numbers of the lines or legs, which index no list
     for number in 1..=last {
         if !R::is_enough(sums.get(number)) {
             return Err(R::fault_at(usize::from(number)));
