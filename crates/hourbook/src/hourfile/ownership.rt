@@ -32,7 +32,7 @@ pub(crate) struct Ownership {
     ghost few_owners: { vec_len owners ≤ 64 },
 }
 
-// How many owner rows the lines have.
+// How many owner rows the lines have. The limit is asked for, since the table that carries it is not made yet.
 fn row_count(lines: &[OwnedLine]) -> usize
     requires { length lines.now ≤ 64 }
     ensures { result ≡ rows_of lines.now }

@@ -98,7 +98,8 @@ fn sums_of<R: SumRule>(bytes: &[u8]) -> Sums
     sums
 }
 
-// Whether the sum of each number from 1 to the last suffices, or the fault of the first that does not.
+// Whether the sum of each number from 1 to the last suffices, or the fault of the first that does not. The limit is that of
+// `Sums`, and no type carries it: the last is a number of lines once, and of legs once.
 pub(crate) fn add_up<R: SumRule>(bytes: &[u8], last: u8) -> Result<(), FileFault>
     requires { last ≤ 64 }
     ensures { MatchResult result (λ _. AllAddUp R.adds R.suffices bytes.now last) (FirstShort R.adds R.suffices R.fault bytes.now last) }
