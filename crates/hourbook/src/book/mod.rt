@@ -16,7 +16,8 @@ pub(crate) mod state;
 mod statement;
 mod text;
 
-// All used entries count.
+// All used entries count. The number stands apart from the entries: their memory is lent to each call, and the book holds
+// none.
 #[derive(Drop)]
 pub(crate) struct RestingBook {
     used: usize,

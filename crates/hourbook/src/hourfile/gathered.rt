@@ -61,9 +61,7 @@ impl Gathered {
         let mut gathered = Gathered::new(heap, census)?;
         for (before, record) in WholeRecords::new(bytes).enumerate() {
             let place = before + 1;
-            let Ok(record) = record else {
-                return Err(FileFault::Unread { place });
-            };
+            let record = record.map_err(|_| FileFault::Unread { place })?;
             gathered.take(record, place)?;
         }
         Ok(gathered)

@@ -60,6 +60,7 @@ fn whole(bytes: &[u8]) -> Result<(), FileFault>
     ensures number { IfErr result (λ e. number_of e ≡ 1) }
 {
     for (before, record) in WholeRecords::new(bytes).enumerate() {
+        // no `map_err` and `?`: tried, and the proof of what the fault tells did not close
         let Ok(_) = record else {
             return Err(FileFault::Unread { place: before + 1 });
         };

@@ -21,7 +21,7 @@ impl OwnedLine {
     ghost use Rattle.hourbook.specs.OwnerRows.{line_rows};
     ghost use Rattle.hourbook.specs.Rising.{owns_line};
 
-    // A line with a leg that contributes, and none without.
+    // A line with a leg that contributes, and none without. Only its first step is that of `OwnedLeg::new`.
     pub(crate) fn new(number: u8, legs: Vec<OwnedLeg>) -> Option<OwnedLine>
         ensures { MatchOption result (vec_len legs ≤ 64 → 0 < contributed legs.items → contributed legs.items ≤ 4000000000 → ⊥) (λ l. (l.number ≡ number) × (l.legs.items ≡ legs.items)) }
     {

@@ -53,7 +53,7 @@ impl Gathered {
         })
     }
 
-    // So many lines, in rising number.
+    // So many lines, in rising number. The limit is asked for: no type carries a number of lines.
     pub(crate) fn owned_lines(&self, heap: Global, count: u8) -> Result<Vec<OwnedLine>, FileFault>
         requires { count ≤ 64 }
         ensures { IfOk result (λ lines. map line_said lines.items ≡ lines_told count self.now.legs.items self.now.owners.items) }

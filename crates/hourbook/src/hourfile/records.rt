@@ -36,6 +36,7 @@ impl<'a> Iterator for WholeRecords<'a> {
         if self.rest.is_empty() {
             return None;
         }
+        // no combinator: a cut also ends the records
         let Some(record) = first_record(self.rest) else {
             self.rest = &[];
             return Some(Err(Cut));

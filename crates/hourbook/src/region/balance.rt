@@ -54,6 +54,7 @@ impl Network {
             .sum()
     }
 
+    // Not one function with the sum above: this adds magnitudes, in an unsigned type.
     fn position_size(&self) -> u64
         ensures { result ≡ sum (map unsigned_abs (tenths_of self.now.positions.items)) }
     {

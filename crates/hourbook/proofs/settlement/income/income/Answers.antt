@@ -14,6 +14,8 @@ use Rattle.hourbook.proofs.settlement.income.income.Given as given
 use Rattle.hourbook.proofs.settlement.income.income.Goals as goal
 use Rattle.hourbook.proofs.settlement.income.income.Goals.{After-sum-sum}
 
+-- `yields` stands in each answer: its type names the bound of this function and the step at which the answer is given.
+
 worths_small : (m : Meaning) → Bounded m → All (λ z. unsigned_abs z ≤ 500000000000) (worths m)
 worths_small m h = All-map (λ z. unsigned_abs z ≤ 500000000000) worth m.zones (All-weaker ZoneBounded (λ z. unsigned_abs (worth z) ≤ 500000000000) (λ z k. rw (unsigned_abs-mul z.position z.price) (mul-le (unsigned_abs z.position) (unsigned_abs z.price) 1000000 500000 k.position k.price)) m.zones h.each_zone)
 

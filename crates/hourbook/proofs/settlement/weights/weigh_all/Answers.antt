@@ -6,6 +6,8 @@ use Rattle.hourbook.specs.Meaning.{LineBounded}
 use Rattle.hourbook.specs.Worths.{weight}
 use Rattle.hourbook.proofs.settlement.weights.weigh_all.Goals as goal
 
+-- `yields` stands in each answer: its type names the bound of this function and the step at which the answer is given.
+
 pub sum-requires-clause-can : goal.sum-requires-clause-can
 sum-requires-clause-can g c =
     let lines = (g.R.Region.meaning c.args.region.now).lines in

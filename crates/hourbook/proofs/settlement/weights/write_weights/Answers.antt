@@ -15,6 +15,8 @@ use Rattle.hourbook.proofs.settlement.weights.write_weights.Given as given
 use Rattle.hourbook.proofs.settlement.weights.write_weights.Goals as goal
 use Rattle.hourbook.proofs.settlement.weights.write_weights.Goals.{In-Some}
 
+-- `yields` stands in each answer: its type names the bound of this function and the step at which the answer is given.
+
 -- the item of a turn is the line at the number of the turn, beside that number
 turn : (g : given.Over) (c : goal.In-Some g) → (length c.loop-k.yielded < length (g.R.Region.meaning c.args.region.now).lines) × (◌≡◌ {A = ℕ × Line} (c.in-Some.k, c.in-Some.line) (length c.loop-k.yielded, get_or (g.R.Region.meaning c.args.region.now).lines (length c.loop-k.yielded) c.in-Some.line))
 turn g c =
