@@ -63,7 +63,7 @@ module _ (p : Phase) (x : Kind) (ks : List Kind) where
   from_zones hzon hbor hleg hfac hlos hown e (inl t) = from_borders hbor hleg hfac hlos hown e t
   from_zones hzon hbor hleg hfac hlos hown e (inr s) = (Zones, ap (next p) s.0 ∙ hzon, s.1)
 
-left_leads : (p : Phase) (x : Kind) (ks : List Kind) → Left p (x ∷ ks) → Leads p x ks
+pub left_leads : (p : Phase) (x : Kind) (ks : List Kind) → Left p (x ∷ ks) → Leads p x ks
 left_leads Start x ks t = (Zones, ap (λ l. next Start (first l)) t.1, subst FromZones (sym (ap (drop 1) t.1)) t.2)
 left_leads Zones x ks t = from_zones Zones x ks refl refl refl refl refl refl refl t
 left_leads Borders x ks t = from_borders Borders x ks refl refl refl refl refl refl t
@@ -74,7 +74,7 @@ left_leads Owners x ks t = from_owners Owners x ks refl refl t
 left_leads Done x ks e = cc
 
 -- a kind that may stand takes the order on
-left_before : (p : Phase) (k : Kind) (ks : List Kind) → may_stand p k ≡ true → Left (phase_after p k) ks → Left p (k ∷ ks)
+pub left_before : (p : Phase) (k : Kind) (ks : List Kind) → may_stand p k ≡ true → Left (phase_after p k) ks → Left p (k ∷ ks)
 left_before Start Header ks m t = (ks, refl, t)
 left_before Start Zone ks m t = cc
 left_before Start Border ks m t = cc
@@ -134,7 +134,7 @@ left_before Owners End ks m t = inl (ap (λ l. End ∷ l) t)
 left_before Done k ks m t = cc
 
 -- from each phase the order can be brought to its end
-rest_of : (p : Phase) → (ks : List Kind) × Left p ks
+pub rest_of : (p : Phase) → (ks : List Kind) × Left p ks
 rest_of Start = (Header ∷ End ∷ [], (End ∷ [], refl, inl (inl (inl (inl (inl (inl refl)))))))
 rest_of Zones = (End ∷ [], inl (inl (inl (inl (inl (inl refl))))))
 rest_of Borders = (End ∷ [], inl (inl (inl (inl (inl refl)))))

@@ -27,7 +27,7 @@ module _ (f : ℕ → Record → ℕ) where
       each = λ n h. so.each n h ∙ ap (λ s. min s 65535) (omega (arith, sum_by_push (f n) rs x, none n h));
     }
 
-    summed_plus : (i v : ℕ) → Numbered 64 i → ((n : ℕ) → f n x ≡ cond (eqb i n) v 0) → Summed f (rs ++ (x ∷ [])) (plus sums i v)
+    pub summed_plus : (i v : ℕ) → Numbered 64 i → ((n : ℕ) → f n x ≡ cond (eqb i n) v 0) → Summed f (rs ++ (x ∷ [])) (plus sums i v)
     summed_plus i v at gives = record {
       long = length-set sums (i - 1) (min (get_or sums (i - 1) 0 + v) 65535) ∙ so.long;
       each = λ n h. told n h (sum_by_push (f n) rs x) (so.each n h) (so.each i at) (gives n);
@@ -48,7 +48,7 @@ module _ (f : ℕ → Record → ℕ) (rs : List Record) (x : Record) (sums afte
   none_out : (n : ℕ) → Numbered 64 n → (Numbered 64 i → ⊥) → f n x ≡ cond (eqb i n) v 0 → f n x ≡ 0
   none_out n h out gives = gives ∙ cond-false (eqb i n) v 0 (ne_eqb i n (λ e. out (subst (Numbered 64) (sym e) h)))
 
-  summed_next : (Numbered 64 i → after ≡ plus sums i v) → ((Numbered 64 i → ⊥) → after ≡ sums) → Summed f (rs ++ (x ∷ [])) after
+  pub summed_next : (Numbered 64 i → after ≡ plus sums i v) → ((Numbered 64 i → ⊥) → after ≡ sums) → Summed f (rs ++ (x ∷ [])) after
   summed_next adds same = ⊎_elim
       (λ at. subst (Summed f (rs ++ (x ∷ []))) (sym (adds at)) (summed_plus f rs x sums so i v at gives))
       (λ out. subst (Summed f (rs ++ (x ∷ []))) (sym (same out)) (summed_same f rs x sums so (λ n h. none_out n h out (gives n))))

@@ -24,7 +24,7 @@ use crate::hourfile::method::Method;
 use crate::hourfile::names::Names;
 use crate::hourfile::order::Phase;
 use crate::hourfile::ranges::Ranges;
-use crate::hourfile::record::{Header, Record, first_record};
+use crate::hourfile::record::{Header, first_record};
 use crate::hourfile::records::WholeRecords;
 use crate::hourfile::rule::follow;
 use crate::hourfile::tally::Tally;
@@ -83,10 +83,7 @@ fn order(bytes: &[u8]) -> Result<Header, FileFault>
 fn leading_header(bytes: &[u8]) -> Option<Header>
     ensures { MatchOption result ((h : Headed) → Begins bytes.now (RecordHeader h) → ⊥) (λ h. Begins bytes.now (RecordHeader h)) }
 {
-    match first_record(bytes)? {
-        Record::Header(header) => Some(header),
-        _ => None,
-    }
+    first_record(bytes)?.header()
 }
 
 // No kind comes too often, and none is missing.

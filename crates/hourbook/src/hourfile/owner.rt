@@ -41,7 +41,7 @@ impl Receiving for OwnerRow {
 }
 
 // An owner of a region, by number: all share alike.
-#[derive(Clone, Copy, Debug, PartialEq, Eq)]
+#[derive(Clone, Copy, Debug, Default, PartialEq, Eq)]
 pub(crate) struct Owner {
     pub(crate) number: u8,
 }

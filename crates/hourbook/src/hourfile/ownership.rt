@@ -7,7 +7,8 @@ use crate::hourfile::fault::FileFault;
 use crate::hourfile::owned_line::OwnedLine;
 use crate::hourfile::owner::Owner;
 use crate::hourfile::region_number::RegionNumber;
-use std::alloc::{AllocError, Global};
+use arrayvec::ArrayVec;
+use std::alloc::Global;
 
 // Owners are numbered below it.
 const OWNERS: u8 = 65;
@@ -18,12 +19,15 @@ const MOST_OWNERS: usize = 64;
 
 const MOST_ROWS: usize = 128;
 
-// The region's number, its lines in rising number, and all owners with a row, each once, in rising number.
+// The region's number, its lines in rising number, and all owners with a row, each once, in rising number. `rows` is how many
+// owner rows there are.
 #[derive(Drop)]
 pub(crate) struct Ownership {
     pub(crate) region: RegionNumber,
     pub(crate) lines: Vec<OwnedLine>,
     pub(crate) owners: Vec<Owner>,
+    rows: usize,
+    ghost counted: { rows ≡ rows_of lines.items },
     ghost few_rows: { rows_of lines.items ≤ 128 },
     ghost some: { 0 < vec_len lines },
     ghost few: { vec_len lines ≤ 64 },
@@ -47,14 +51,18 @@ fn is_owner(lines: &[OwnedLine], number: u8) -> bool
     lines.iter().any(|line| line.is_owned_by(number))
 }
 
-// The owners with a row, each once, in rising number.
-fn rising_owners(heap: Global, lines: &[OwnedLine]) -> Result<Vec<Owner>, AllocError>
-    ensures { IfOk result (λ owners. map number_of owners.items ≡ owners_of lines.now) }
+// The owners with a row, each once, in rising number. No heap, so that a table is tested before memory is asked for.
+fn rising_owners(lines: &[OwnedLine]) -> ArrayVec<Owner, 65>
+    ensures { map number_of result.items ≡ owners_of lines.now }
 {
-    (0..OWNERS)
-        .filter(|number| is_owner(lines, *number))
-        .map(|number| Owner { number })
-        .collect(heap)
+    let mut owners = ArrayVec::new();
+    // the numbers of owners, which index no list
+    for number in 0..OWNERS {
+        if is_owner(lines, number) {
+            owners.push(Owner { number });
+        }
+    }
+    owners
 }
 
 impl Ownership {
@@ -70,17 +78,17 @@ impl Ownership {
         if lines.is_empty() || lines.len() > MOST_LINES {
             return Err(FileFault::Keys { leg: 0 });
         }
-        let owners = rising_owners(heap, lines.as_slice())?;
-        if owners.is_empty()
-            || owners.len() > MOST_OWNERS
-            || row_count(lines.as_slice()) > MOST_ROWS
-        {
+        let rising = rising_owners(lines.as_slice());
+        let rows = row_count(lines.as_slice());
+        if rising.is_empty() || rising.len() > MOST_OWNERS || rows > MOST_ROWS {
             return Err(FileFault::Keys { leg: 0 });
         }
+        let owners = rising.iter().copied().collect(heap)?;
         Ok(Ownership {
             region,
             lines,
             owners,
+            rows,
         })
     }
 
@@ -89,6 +97,6 @@ impl Ownership {
         ensures is { result ≡ rows_of self.now.lines.items }
         ensures few { result ≤ 128 }
     {
-        row_count(self.lines.as_slice())
+        self.rows
     }
 }

@@ -2,7 +2,7 @@
 ghost use Rattle.std.specs.Prelude.{◌≡◌, ◌<◌, length, MatchOption};
 ghost use Rattle.hourbook.specs.Encoding.{Begins, encoded};
 ghost use Rattle.hourbook.specs.Format.{Whole};
-ghost use Rattle.hourbook.specs.Kinds.{kind_of};
+ghost use Rattle.hourbook.specs.Kinds.{header_in, kind_of, leg_in, owner_in};
 ghost use Rattle.hourbook.specs.Lawful.{method_of};
 
 use crate::hourfile::method::Method;
@@ -100,6 +100,33 @@ impl Record {
             Record::Loss(_) => Kind::Loss,
             Record::Owner(_) => Kind::Owner,
             Record::End => Kind::End,
+        }
+    }
+
+    pub(crate) fn header(self) -> Option<Header>
+        ensures { result ≡ header_in self }
+    {
+        match self {
+            Record::Header(header) => Some(header),
+            _ => None,
+        }
+    }
+
+    pub(crate) fn leg(self) -> Option<LegRecord>
+        ensures { result ≡ leg_in self }
+    {
+        match self {
+            Record::Leg(leg) => Some(leg),
+            _ => None,
+        }
+    }
+
+    pub(crate) fn owner(self) -> Option<OwnerRecord>
+        ensures { result ≡ owner_in self }
+    {
+        match self {
+            Record::Owner(owner) => Some(owner),
+            _ => None,
         }
     }
 

@@ -1,13 +1,12 @@
 //! How many records of each kind an hour file has.
-ghost use Rattle.std.specs.Prelude.{◌≡◌, ◌↔◌, ◌+◌, ◌<◌, IsTrue};
-ghost use Rattle.std.specs.Bool.{OnFalse, OnTrue};
+ghost use Rattle.std.specs.Prelude.{◌≡◌, ◌↔◌, IsTrue};
 ghost use Rattle.hourbook.specs.Kinds.{kind_of};
 ghost use Rattle.hourbook.specs.Tallies.{Furnished, WithinLimits, added, none_yet};
 ghost use Rattle.hourbook.specs.declared.hourfile.fault.FileFault.TheVariants.{Count};
 
 use crate::hourfile::fault::FileFault;
 use crate::hourfile::method::Method;
-use crate::hourfile::record::Record;
+use crate::hourfile::record::{Kind, Record};
 use crate::hourfile::rule::Rule;
 
 const MOST_ZONES: u8 = 16;
@@ -40,6 +39,25 @@ impl Tally {
         }
     }
 
+    // Counts one record more, and says whether no kind has come too often.
+    pub(crate) fn add(&mut self, kind: Kind) -> bool
+        requires { WithinLimits self.old }
+        ensures after { self.new ≡ added self.old kind }
+        ensures test { IsTrue result ↔ WithinLimits self.new }
+    {
+        match kind {
+            Kind::Zone => self.zones += 1,
+            Kind::Border => self.borders += 1,
+            Kind::Leg => self.legs += 1,
+            Kind::Owner => self.owners += 1,
+            Kind::Header | Kind::Factor | Kind::Loss | Kind::End => {}
+        }
+        self.zones <= MOST_ZONES
+            && self.borders <= MOST_BORDERS
+            && self.legs <= MOST_LEGS
+            && self.owners <= MOST_OWNER_ROWS
+    }
+
     // Whether nothing is missing that a file of this method must have.
     pub(crate) fn suffices(&self, method: Option<Method>) -> bool
         ensures { IsTrue result ↔ Furnished self.now method }
@@ -65,25 +83,11 @@ impl Rule for Tally {
     }
 
     fn admits(&mut self, record: &Record) -> bool {
-        match record {
-            Record::Zone(_) => count_one(&mut self.zones, MOST_ZONES),
-            Record::Border(_) => count_one(&mut self.borders, MOST_BORDERS),
-            Record::Leg(_) => count_one(&mut self.legs, MOST_LEGS),
-            Record::Owner(_) => count_one(&mut self.owners, MOST_OWNER_ROWS),
-            Record::Header(_) | Record::Factor(_) | Record::Loss(_) | Record::End => true,
+        let mut next = *self;
+        let few = next.add(record.kind());
+        if few {
+            *self = next;
         }
+        few
     }
-}
-
-// Counts one more where there is room for it.
-fn count_one(count: &mut u8, most: u8) -> bool
-    ensures test { IsTrue result ↔ (count.old < most) }
-    ensures yes { OnTrue result (count.new ≡ count.old + 1) }
-    ensures no { OnFalse result (count.new ≡ count.old) }
-{
-    let room = *count < most;
-    if room {
-        *count += 1;
-    }
-    room
 }

@@ -45,10 +45,7 @@ impl SumRule for Contributions {
     ghost fault = { Contribution };
 
     fn part(record: &Record) -> Option<(u8, u16)> {
-        match record {
-            Record::Leg(leg) => Some((leg.line, leg.contribution)),
-            _ => None,
-        }
+        record.leg().map(|leg| (leg.line, leg.contribution))
     }
 
     fn is_enough(sum: u16) -> bool {
@@ -71,10 +68,7 @@ impl SumRule for Keys {
     ghost fault = { KeysFault };
 
     fn part(record: &Record) -> Option<(u8, u16)> {
-        match record {
-            Record::Owner(owner) => Some((owner.leg, owner.key)),
-            _ => None,
-        }
+        record.owner().map(|owner| (owner.leg, owner.key))
     }
 
     fn is_enough(sum: u16) -> bool {

@@ -7,4 +7,4 @@ pub loop-before-preserved : goal.loop-before-preserved
 loop-before-preserved c =
     let steps = c.in-Some.ensures.steps in
     let split = rw c.in-Ok.is at steps.0 in
-    subst (Passing c.args.bytes.now (enumerate_source c.next.new.self).rest.now) (sym steps.2) (passing_next _ _ _ _ c.in-Ok.field-0 c.loop-before.invariant split)
+    subst (Passing c.args.bytes.now (enumerate_source c.next.new.self).records.rest.now) (sym steps.2) (passing_next _ _ _ _ c.in-Ok.field-0 c.loop-before.invariant split)

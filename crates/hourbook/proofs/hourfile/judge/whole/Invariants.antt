@@ -3,4 +3,4 @@ use Rattle.hourbook.proofs.Passing.{Passing}
 use Rattle.hourbook.proofs.hourfile.judge.whole.Given as goal
 
 abbrev pub invariant-loop-before : goal.invariant-loop-before
-invariant-loop-before l = Passing l.bytes (enumerate_source l.before-iterator).rest.now (enumerate_count l.before-iterator)
+invariant-loop-before l = Passing l.bytes (enumerate_source l.before-iterator).records.rest.now (enumerate_count l.before-iterator)
