@@ -6,6 +6,7 @@ pub mod LineRowed
 pub mod Parts
 pub mod Sinking
 pub mod Owns
+pub mod Short
 pub mod Stands
 pub mod Passing
 pub mod Collect

@@ -1,7 +1,8 @@
 -- What is left of memory from a place on, and what is written to it. Assumes nothing.
-use Rattle.std.proofs.Common.{◌≡◌, ℕ, ◌+◌, ◌-◌, ◌≤◌, List, [], ◌++◌, length, take, drop, ap, ◌∙◌, arith}
+use Rattle.std.proofs.Common.{◌≡◌, ℕ, ◌+◌, ◌-◌, ◌≤◌, List, [], ◌∷◌, ◌++◌, length, get_or, length-set, take, drop, set, sym, ap, ◌∙◌, arith}
 use Rattle.std.proofs.lemmas.List.{append-nil, drop-drop, drop_all, length-drop, take_all}
 use borrow.Rule.Slice.PartMut.{put_mid}
+use Rattle.sharing.proofs.Writing.{written_none, written-set}
 use Rattle.sharing.specs.Writes.{written}
 
 -- what is left of memory from place n on
@@ -24,3 +25,15 @@ written_rest m n ys after h e =
     ∙ (ap (λ l. ys ++ drop (0 + length ys) l) same
     ∙ (ap (λ l. ys ++ l) (drop-drop (0 + length ys) n m)
     ∙ ap (λ i. ys ++ drop i m) place))))
+
+-- a list of one, and of two, written item by item
+pub one_written : (m : List ℕ) (n : ℕ) (xs : List ℕ) → length xs ≡ 1 → n + length xs ≤ length m → set m n (get_or xs 0 0) ≡ written m n xs
+one_written m n [] one h = absurd (omega arith)
+one_written m n (x ∷ []) one h = sym (written_none (set m n x) (n + 1)) ∙ written-set m n x [] (omega arith)
+one_written m n (x ∷ y ∷ xs) one h = absurd (omega arith)
+
+pub two_written : (m : List ℕ) (n : ℕ) (xs : List ℕ) → length xs ≡ 2 → n + length xs ≤ length m → set (set m n (get_or xs 0 0)) (n + 1) (get_or xs 1 0) ≡ written m n xs
+two_written m n [] two h = absurd (omega arith)
+two_written m n (x ∷ []) two h = absurd (omega arith)
+two_written m n (x ∷ y ∷ []) two h = one_written (set m n x) (n + 1) (y ∷ []) (omega arith) (omega (arith, length-set m n x)) ∙ written-set m n x (y ∷ []) (omega arith)
+two_written m n (x ∷ y ∷ z ∷ xs) two h = absurd (omega arith)

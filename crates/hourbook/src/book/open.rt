@@ -5,6 +5,7 @@ ghost use Rattle.hourbook.specs.Moves.{Moved};
 
 use crate::book::entries::used_entries;
 use crate::book::fault::BookFault;
+use crate::book::settle::PLACES;
 use crate::book::settled::SettledRegions;
 use crate::book::standing::stands;
 use crate::book::{OpenBook, Refusal, RestingBook};
@@ -22,7 +23,8 @@ impl RestingBook {
     fn judge_open(&self, memory: &[Row], hour: u32) -> Result<(), BookFault>
         ensures { result ≡ open_judged self.now.used memory.now hour }
     {
-        let entries = used_entries(memory, self.used)?;
+        // `used` is the smaller: no book has more entries. So bounded, `stands` runs with one counter in place of two.
+        let entries = used_entries(memory, self.used.min(PLACES))?;
         if hour == 0 || stands(entries, hour) {
             return Err(BookFault::Hour);
         }

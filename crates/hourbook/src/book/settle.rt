@@ -14,7 +14,7 @@ use crate::hourfile::ownership::Ownership;
 use crate::region::meaning::Region;
 use crate::settlement::settle::{entries_needed, judge, write};
 
-const PLACES: usize = 1_000_000;
+pub(super) const PLACES: usize = 1_000_000;
 
 impl OpenBook {
     // The income, where the region can be settled and its entries find room.

@@ -1,5 +1,6 @@
 //! What takes the bytes of a text: a count of them, or lent memory.
-ghost use Rattle.std.specs.Prelude.{◌≡◌, ℕ, List, length, ⊤};
+ghost use Rattle.std.specs.Prelude.{◌≡◌, ℕ, ◌+◌, ◌≤◌, List, length, ⊤};
+ghost use Rattle.sharing.specs.Writes.{written};
 ghost use Rattle.hourbook.specs.Sinks.{SinkLaws};
 ghost use Rattle.hourbook.specs.SinkModels.{counts_any, Counted, count_laws, fits, Filled, page_laws};
 
@@ -30,6 +31,7 @@ impl Sink for Count {
 
     ghost laws = { count_laws };
 
+    #[inline(always)]
     fn put(&mut self, bytes: &[u8]) {
         self.bytes = self.bytes.saturating_add(bytes.len());
     }
@@ -60,6 +62,23 @@ impl<'a> Page<'a> {
     }
 }
 
+// Writes bytes from a place of memory on. One or two, as most are, need no call that copies.
+#[inline(always)]
+#[tactic(auto, using(crate::proofs::Rest::two_written))]
+fn write_at(memory: &mut [u8], at: usize, bytes: &[u8])
+    requires { at + length bytes.now ≤ length memory.old }
+    ensures { memory.new ≡ written memory.old at bytes.now }
+{
+    match bytes {
+        [one] => memory[at] = *one,
+        [one, two] => {
+            memory[at] = *one;
+            memory[at + 1] = *two;
+        }
+        _ => memory[at..at + bytes.len()].copy_from_slice(bytes),
+    }
+}
+
 impl Sink for Page<'_> {
     ghost has_room = { fits };
 
@@ -67,10 +86,11 @@ impl Sink for Page<'_> {
 
     ghost laws = { page_laws };
 
+    #[inline(always)]
     fn put(&mut self, bytes: &[u8]) {
         let end = self.filled + bytes.len();
         let memory = &mut *self.memory;
-        memory[self.filled..end].copy_from_slice(bytes);
+        write_at(memory, self.filled, bytes);
         self.filled = end;
     }
 }

@@ -30,7 +30,8 @@ impl RestingBook {
             return Err(BookFault::Owner);
         }
         let statement = Statement::new(entries, owner);
-        if out.len() < statement.len() {
+        // Where even the longest text of so many entries has room, none is counted.
+        if out.len() < statement.most_bytes() && out.len() < statement.len() {
             return Err(BookFault::Statement);
         }
         Ok(statement.write(out))

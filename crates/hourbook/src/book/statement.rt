@@ -1,5 +1,5 @@
 //! An owner's statement.
-ghost use Rattle.std.specs.Prelude.{◌≡◌, ◌^◌, ◌-◌, ◌≤◌, min, length};
+ghost use Rattle.std.specs.Prelude.{◌≡◌, ◌+◌, ◌*◌, ◌^◌, ◌-◌, ◌≤◌, min, length};
 ghost use Rattle.hourbook.specs.Wrote.{Wrote};
 ghost use Rattle.hourbook.specs.Statements.{balance_of, own, statement_of};
 
@@ -9,10 +9,11 @@ use crate::entry::entry::Entry;
 use crate::entry::row::Row;
 use std::marker::Model;
 
-// What the owner's entries add to.
+// What the owner's entries add to, and how long their statement is at most.
 fn balance(entries: &[Row], owner: u8) -> i64
     requires { length entries.now ≤ 4294967295 }
-    ensures { result ≡ balance_of (own owner entries.now) }
+    ensures value { result ≡ balance_of (own owner entries.now) }
+    ensures short { length (statement_of owner (own owner entries.now)) ≤ 37 * length entries.now + 29 }
 {
     let mut sum: i64 = 0;
     for row in entries {
@@ -30,6 +31,8 @@ pub(crate) struct Statement<'a> {
     owner: u8,
     entries: &'a [Row],
     balance: i64,
+    ghost short: { length (statement_of owner (own owner entries.now)) ≤ 37 * length entries.now + 29 },
+    ghost counted: { length entries.now ≤ 4294967295 },
 }
 
 impl<'a> Model for Statement<'a> {
@@ -69,6 +72,15 @@ impl<'a> Statement<'a> {
             }
         }
         put_line(sink, b'B', &[self.balance]);
+    }
+
+    // The text has no more bytes, whatever its numbers are. A line of an entry has at most 37: the letter, ten digits of the
+    // hour, three each of region, line and leg, eleven of the amount with its sign, five spaces and the end. The two others
+    // have at most 29.
+    pub(crate) fn most_bytes(&self) -> usize
+        ensures { length self.now ≤ result }
+    {
+        37 * self.entries.len() + 29
     }
 
     // How many bytes the text has.

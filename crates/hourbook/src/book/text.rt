@@ -7,6 +7,7 @@ use crate::book::sink::Sink;
 use itoa::Buffer;
 
 // A space, then the number.
+#[inline(always)]
 fn put_field<S: Sink>(sink: &mut S, number: i64)
     requires { S.has_room sink.old (length (32 ∷ signed_decimal number)) }
     ensures { S.took sink.old (32 ∷ signed_decimal number) sink.new }
@@ -16,6 +17,7 @@ fn put_field<S: Sink>(sink: &mut S, number: i64)
 }
 
 // A line of at most eight fields has at most 200 bytes.
+#[inline(always)]
 pub(crate) fn put_line<S: Sink>(sink: &mut S, letter: u8, fields: &[i64])
     requires { S.has_room sink.old (length (line_of letter fields.now)) }
     ensures line { S.took sink.old (line_of letter fields.now) sink.new }
