@@ -31,7 +31,6 @@ impl Sink for Count {
 
     ghost laws = { count_laws };
 
-    #[inline(always)]
     fn put(&mut self, bytes: &[u8]) {
         self.bytes = self.bytes.saturating_add(bytes.len());
     }
@@ -63,7 +62,6 @@ impl<'a> Page<'a> {
 }
 
 // Writes bytes from a place of memory on. One or two, as most are, need no call that copies.
-#[inline(always)]
 #[tactic(auto, using(crate::proofs::Rest::two_written))]
 fn write_at(memory: &mut [u8], at: usize, bytes: &[u8])
     requires { at + length bytes.now ≤ length memory.old }
@@ -86,7 +84,6 @@ impl Sink for Page<'_> {
 
     ghost laws = { page_laws };
 
-    #[inline(always)]
     fn put(&mut self, bytes: &[u8]) {
         let end = self.filled + bytes.len();
         let memory = &mut *self.memory;

@@ -30,7 +30,7 @@ impl RestingBook {
             return Err(BookFault::Owner);
         }
         let statement = Statement::new(entries, owner);
-        // Where even the longest text of so many entries has room, none is counted.
+        // Where even the longest text of so many entries has room, its bytes aren't counted.
         if out.len() < statement.most_bytes() && out.len() < statement.len() {
             return Err(BookFault::Statement);
         }

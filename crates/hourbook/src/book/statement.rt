@@ -9,7 +9,7 @@ use crate::entry::entry::Entry;
 use crate::entry::row::Row;
 use std::marker::Model;
 
-// What the owner's entries add to, and how long their statement is at most.
+// What the owner's entries add to. The contract also says how long their statement is at most.
 fn balance(entries: &[Row], owner: u8) -> i64
     requires { length entries.now ≤ 4294967295 }
     ensures value { result ≡ balance_of (own owner entries.now) }
@@ -76,7 +76,7 @@ impl<'a> Statement<'a> {
 
     // The text has no more bytes, whatever its numbers are. A line of an entry has at most 37: the letter, ten digits of the
     // hour, three each of region, line and leg, eleven of the amount with its sign, five spaces and the end. The two others
-    // have at most 29.
+    // have together at most 29.
     pub(crate) fn most_bytes(&self) -> usize
         ensures { length self.now ≤ result }
     {

@@ -83,10 +83,10 @@ impl Rule for Tally {
     }
 
     fn admits(&mut self, record: &Record) -> bool {
-        let mut next = *self;
-        let few = next.add(record.kind());
-        if few {
-            *self = next;
+        let before = *self;
+        let few = self.add(record.kind());
+        if !few {
+            *self = before;
         }
         few
     }
